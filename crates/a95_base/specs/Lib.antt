@@ -1,0 +1,3 @@
+pub mod Fault
+pub mod Integer
+pub mod Record
