@@ -1,3 +1,4 @@
 pub mod Fault
 pub mod Integer
+pub mod Lists
 pub mod Record
