@@ -3,6 +3,8 @@ use Rattle.std.proofs.Common.{◌≡◌, ℕ, ◌+◌, ◌-◌, ◌*◌, ◌%◌
 use Rattle.std.specs.Prelude.{negsuc, unsigned_abs}
 use Rattle.std.proofs.Common.{suc}
 use mir.Val.{sel}
+use Rattle.std.proofs.lemmas.Int.{int_wrap_fits, SFits-int_wrap}
+use Rattle.std.specs.Prelude.{FitsSigned}
 use Rattle.std.specs.Int.{int_rem_euclid, int_wrap, cast_signed, w32, w64}
 use Rattle.a95_base.specs.Integer.{wrapped}
 
@@ -31,3 +33,18 @@ wrapped-int_wrap (negsuc a) =
     let whole : 18446744073709551615 - a % 18446744073709551616 < 18446744073709551616 = omega arith in
     let low : (18446744073709551615 - a % 18446744073709551616) % 4294967296 ≡ 4294967295 - a % 4294967296 = omega arith in
     ap (cast_signed w32) (low_of_cast (18446744073709551615 - a % 18446744073709551616) whole ∙ low)
+
+-- An INTEGER is left as it is, and so is what was wrapped before.
+pub wrapped_fits : (z : ℤ) → FitsSigned w32 z → wrapped z ≡ z
+unfolding wrapped int_wrap
+wrapped_fits z h = int_wrap_fits w32 z h
+
+pub fits_wrapped : (z : ℤ) → FitsSigned w32 (wrapped z)
+unfolding wrapped int_wrap
+fits_wrapped z = SFits-int_wrap w32 z
+
+pub wrapped-wrapped : (z : ℤ) → wrapped (wrapped z) ≡ wrapped z
+wrapped-wrapped z = wrapped_fits (wrapped z) (fits_wrapped z)
+
+pub wrapped_small : (n : ℕ) → n < 2147483648 → wrapped (pos n) ≡ pos n
+wrapped_small n h = wrapped_fits (pos n) (omega arith)
