@@ -2,9 +2,14 @@
 //! adapters over the real ones. What a call does, and what it tells of the bytes, stands at the traits.
 #![tactic(auto)]
 
+mod clean;
+mod memory_sink;
+mod memory_source;
 mod traits;
 
+pub use clean::{CleanShelf, CleanSink, CleanSource};
+pub use memory_sink::MemorySink;
+pub use memory_source::MemorySource;
 pub use traits::{Failed, LoadFault, PutFault, Shelf, Sink, Source};
-
 
 mod uses;
