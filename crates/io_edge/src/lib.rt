@@ -3,11 +3,13 @@
 #![tactic(auto)]
 
 mod clean;
+mod memory_shelf;
 mod memory_sink;
 mod memory_source;
 mod traits;
 
 pub use clean::{CleanShelf, CleanSink, CleanSource};
+pub use memory_shelf::MemoryShelf;
 pub use memory_sink::MemorySink;
 pub use memory_source::MemorySource;
 pub use traits::{Failed, LoadFault, PutFault, Shelf, Sink, Source};
