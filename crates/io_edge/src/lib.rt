@@ -1,5 +1,6 @@
 //! The outside of the program: files, input and output as three traits, with types that keep all of it in memory and
-//! adapters over the real ones. What a call does, and what it tells of the bytes, stands at the traits.
+//! adapters over the real ones. What a call does, and what it tells of the bytes, stands at the traits; when a fault
+//! may be answered, in `specs/Causes.antt`.
 #![tactic(auto)]
 
 mod clean;
@@ -8,6 +9,8 @@ mod memory_shelf;
 mod memory_sink;
 mod memory_source;
 mod streams;
+#[cfg(test)]
+mod tests;
 mod traits;
 
 pub use clean::{CleanShelf, CleanSink, CleanSource};
@@ -17,5 +20,3 @@ pub use memory_sink::MemorySink;
 pub use memory_source::MemorySource;
 pub use streams::{ReaderSource, StderrSink, StdinSource, StdoutSink, WriterSink};
 pub use traits::{Failed, LoadFault, PutFault, Shelf, Sink, Source};
-
-mod uses;

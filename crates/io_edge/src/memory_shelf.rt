@@ -25,7 +25,11 @@ impl Model for MemoryShelf {
     ghost Value = { Files };
 
     ghost view = { λ s. record {
-        files = named_files s.files.items; failing = s.failing.items; calls = s.calls; faults = s.faults; failed = string_bytes s.failed
+      files = named_files s.files.items;
+      failing = s.failing.items;
+      calls = s.calls;
+      faults = s.faults;
+      failed = string_bytes s.failed;
     } };
 }
 
@@ -65,7 +69,10 @@ impl Shelf for MemoryShelf {
         ensures unloaded { OnErr result (into.new.items ≡ into.old.items) }
         ensures ok { OnOk result (self.new ≡ record self.old { calls = one_more self.old.calls }) }
         ensures failed { IsErrOf result LoadFault.Failed → self.new ≡ record self.old {
-            calls = one_more self.old.calls; faults = one_more self.old.faults; failed = name.now } }
+          calls = one_more self.old.calls;
+          faults = one_more self.old.faults;
+          failed = name.now;
+        } }
         ensures memory { IsErrOf result LoadFault.Memory → self.new ≡ record self.old { calls = one_more self.old.calls } }
         ensures loads { OnOk result (IsTrue (loads_next self.old name.now)) }
         ensures fails { IsErrOf result LoadFault.Failed → IsFalse (loads_next self.old name.now) }

@@ -22,7 +22,11 @@ impl Model for MemorySink {
     ghost Value = { Output };
 
     ghost view = { λ s. record {
-        written = s.written.items; passed = s.passed; failing = s.failing.items; calls = s.calls; faults = s.faults
+      written = s.written.items;
+      passed = s.passed;
+      failing = s.failing.items;
+      calls = s.calls;
+      faults = s.faults;
     } };
 }
 
@@ -62,9 +66,14 @@ impl Sink for MemorySink {
 
     fn put(&mut self, bytes: &[u8]) -> Result<(), PutFault>
         ensures ok { OnOk result (self.new ≡ record self.old {
-            written = self.old.written ++ bytes.now; calls = one_more self.old.calls }) }
+          written = self.old.written ++ bytes.now;
+          calls = one_more self.old.calls;
+        }) }
         ensures failed { IsErrOf result PutFault.Failed → self.new ≡ record self.old {
-            written = self.old.written ++ take self.old.passed bytes.now; calls = one_more self.old.calls; faults = one_more self.old.faults } }
+          written = self.old.written ++ take self.old.passed bytes.now;
+          calls = one_more self.old.calls;
+          faults = one_more self.old.faults;
+        } }
         ensures memory { IsErrOf result PutFault.Memory → self.new ≡ record self.old { calls = one_more self.old.calls } }
         ensures later { self.old.faults ≤ self.new.faults }
         ensures passes { OnOk result (IsFalse (fails_next self.old.failing self.old.calls)) }

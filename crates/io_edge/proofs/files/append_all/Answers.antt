@@ -1,4 +1,4 @@
-use Rattle.std.proofs.Common.{◌≤◌, arith}
+use Rattle.std.proofs.Common.{arith}
 use Rattle.std.proofs.KnownBytes.{Consumes-more}
 use Rattle.std.proofs.Transfers.{starts_with_trans}
 use Rattle.io_edge.proofs.files.append_all.Goals as goal

@@ -1,4 +1,4 @@
-use Rattle.std.proofs.Common.{rules, arith, ◌≡◌, subst, sym, length, take, drop}
+use Rattle.std.proofs.Common.{arith, ◌≡◌, subst, sym, length, take}
 use Rattle.std.proofs.lemmas.List.{same_lists, places}
 use Rattle.std.proofs.lemmas.Grind.{common_steps}
 use Rattle.std.specs.Io.{appended_bytes}
