@@ -1,5 +1,5 @@
 -- What calls do to the bytes that a sink holds or a source has left, where these are told.
-use Rattle.std.specs.Prelude.{◌≡◌, ℕ, List, ◌++◌, take, Option, Some, None, IfSome}
+use Rattle.std.specs.Prelude.{◌≡◌, ℕ, List, ◌++◌, take, Option, IfSome}
 use Rattle.std.specs.Io.KnownBytes.{Appends}
 
 -- the new bytes are the old ones and the bytes of the file, where these are told
