@@ -1,0 +1,7 @@
+//! Shapes, places, walks and loop orders, for every rank from 1 to 7 by one contract each. What a place's number is
+//! stands in `specs/Shape.antt`, what a loop order is in `specs/Order.antt`, and what a walk meets in `specs/Walk.antt`.
+#![tactic(auto)]
+
+mod shape;
+
+pub use shape::{Place, Shape};
