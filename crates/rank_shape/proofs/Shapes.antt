@@ -6,23 +6,15 @@ use Rattle.std.proofs.lemmas.Int.{ints}
 use Rattle.std.proofs.lemmas.List.{drop_more, length-map}
 use Rattle.a95_base.specs.Lists.{EachOf}
 use Rattle.rank_shape.specs.Shape.{AreNatural, naturals, size_of}
+use Rattle.rank_shape.specs.Fields.{natural_is}
 
 pub length-naturals : (zs : List ℤ) → length (naturals zs) ≡ length zs
 length-naturals zs = length-map zs unsigned_abs
-
--- a number that is not negative is what its absolute value says
-pub natural_is : (z : ℤ) → pos 0 ≤ℤ z → pos (unsigned_abs z) ≡ z
-natural_is (pos n) h = refl
-natural_is (negsuc n) h = absurd (omega (arith, ints))
 
 pub naturals_at : (zs : List ℤ) (k : ℕ) (d : ℤ) → AreNatural zs → k < length zs → pos (get_or (naturals zs) k 0) ≡ get_or zs k d
 naturals_at [] k d h below = absurd (omega arith)
 naturals_at (z ∷ zs) zero d h below = natural_is z h.0
 naturals_at (z ∷ zs) (suc k) d h below = naturals_at zs k d h.1 (omega arith)
-
-pub pos_naturals : (zs : List ℤ) → AreNatural zs → map pos (naturals zs) ≡ zs
-pos_naturals [] h = refl
-pos_naturals (z ∷ zs) h = ap (λ w. w ∷ map pos (naturals zs)) (natural_is z h.0) ∙ ap (λ ws. z ∷ ws) (pos_naturals zs h.1)
 
 -- a factor taken under a cap gives the product under the cap
 pub capped : (a r most : ℕ) → min (min a most * r) most ≡ min (a * r) most

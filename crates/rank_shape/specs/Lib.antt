@@ -1,3 +1,4 @@
+pub mod Fields
 pub mod Order
 pub mod Shape
 pub mod Turn

@@ -16,6 +16,9 @@ levels (number ∷ numbers) (down ∷ downs) = record { number = number; down = 
 abbrev pub loops_of : List Level → List ℕ
 loops_of = map (λ level. level.number)
 
+abbrev pub downs_of : List Level → List Bool
+downs_of = map (λ level. level.down)
+
 -- the loops are those from 1 to the rank, each once
 abbrev pub IsOrder : ℕ → List Level → Type 0
 IsOrder rank order = Permuted (loops_of order) (down_to_one rank)

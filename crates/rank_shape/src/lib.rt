@@ -2,6 +2,8 @@
 //! stands in `specs/Shape.antt`, what a loop order is in `specs/Order.antt`, and what a walk meets in `specs/Walk.antt`.
 #![tactic(auto)]
 
+mod order;
 mod shape;
 
+pub use order::Order;
 pub use shape::{Place, Shape};

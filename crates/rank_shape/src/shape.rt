@@ -7,24 +7,30 @@ use std::marker::Model;
 const MOST_PLACES: u64 = 1 << 24;
 
 /// The extents of an array of rank `R`, the first dimension first. Contracts see the list of extents.
-#[derive(Drop)]
+#[derive(Clone, Copy, Debug, PartialEq, Eq)]
 pub struct Shape<const R: usize> {
     extents: [i64; R],
 }
 
 impl<const R: usize> Model for Shape<R> {
-    ghost use Rattle.std.specs.Prelude.{List, ℕ};
+    ghost use Rattle.std.specs.Prelude.{List, ℕ, map, pos};
+    ghost use Rattle.std.proofs.Common.{ap};
     ghost use Rattle.rank_shape.specs.Shape.{AreNatural, IsShape, naturals};
+    ghost use Rattle.rank_shape.specs.Fields.{pos_naturals};
 
     ghost Value = { List ℕ };
 
     ghost view = { λ shape. naturals shape.extents };
 
     ghost invariant = { λ shape. AreNatural shape.extents × IsShape R (naturals shape.extents) };
+
+    ghost inverse = { λ extents. record { extents = map pos extents } };
+
+    ghost inverse_ok = { λ shape holds. ap (λ extents. record { extents = extents }) (pos_naturals shape.extents holds.0) };
 }
 
 /// A place of an array of rank `R`: a subscript for each dimension, counted from 0.
-#[derive(Drop)]
+#[derive(Clone, Copy, Debug, PartialEq, Eq)]
 pub struct Place<const R: usize> {
     pub at: [i64; R],
 }
