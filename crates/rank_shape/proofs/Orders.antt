@@ -59,7 +59,7 @@ element_loops (suc rank) = ap (λ ns. suc rank ∷ ns) (element_loops rank)
 pub element_is_order : (rank : ℕ) → IsOrder rank (element_order_of rank)
 element_is_order rank = permuted_equal (loops_of (element_order_of rank)) (down_to_one rank) (element_loops rank)
 
-length-down_to_one : (n : ℕ) → length (down_to_one n) ≡ n
+pub length-down_to_one : (n : ℕ) → length (down_to_one n) ≡ n
 length-down_to_one zero = refl
 length-down_to_one (suc n) = ap suc (length-down_to_one n)
 

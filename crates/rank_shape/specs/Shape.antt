@@ -1,7 +1,7 @@
 -- Shapes and places, for every rank. A list of extents or of subscripts has the first dimension first, whose subscript
 -- varies fastest in array element order. Places are counted from 0.
 use Rattle.std.specs.Prelude.{◌≡◌, ℕ, ℤ, pos, ◌+◌, ◌*◌, ◌/◌, ◌%◌, ◌^◌, ◌<◌, ◌≤◌, ◌≤ℤ◌, List, [], ◌∷◌, length, map, unsigned_abs}
-use Rattle.a95_base.specs.Lists.{EachOf}
+use Rattle.a95_base.specs.Lists.{EachOf, count_to}
 
 -- the ranks that an array may have
 pub record IsRank (rank : ℕ) : Type 0 where
@@ -43,3 +43,7 @@ number_of (extent ∷ extents) (i ∷ place) = i + extent * number_of extents pl
 abbrev pub place_at : List ℕ → ℕ → List ℕ
 place_at [] number = []
 place_at (extent ∷ extents) number = number % extent ∷ place_at extents (number / extent)
+
+-- all places, in array element order
+abbrev pub places_of : List ℕ → List (List ℕ)
+places_of extents = map (place_at extents) (count_to (size_of extents))

@@ -1,4 +1,4 @@
-ghost use Rattle.std.specs.Prelude.{◌≡◌, pos, min, ◌+◌, ◌^◌, ◌<◌, ◌≤◌, ◌<ℤ◌, ◌≤ℤ◌, ◌↔◌, map, unsigned_abs, slice_index, IsSome, IfSome};
+ghost use Rattle.std.specs.Prelude.{◌≡◌, pos, min, ◌+◌, ◌^◌, ◌<◌, ◌≤◌, ◌<ℤ◌, ◌≤ℤ◌, ◌↔◌, length, map, unsigned_abs, slice_index, IsSome, IfSome};
 ghost use Rattle.rank_shape.specs.Shape.{IsRank, AreNatural, naturals, size_of, IsShape, IsPlace, number_of, place_at};
 
 use std::marker::Model;
@@ -49,12 +49,28 @@ impl<const R: usize> Shape<R> {
         Some(Shape { extents })
     }
 
+    /// How many dimensions there are.
+    pub fn rank(&self) -> usize
+        ensures rank { result ≡ R }
+        ensures extents { result ≡ length self.now }
+    {
+        self.known();
+        R
+    }
+
     /// How far the dimension reaches; the first has the number 0.
     pub fn extent(&self, dim: usize) -> i64
         requires { dim < R }
         ensures { result ≡ pos (slice_index self.now dim) }
     {
         self.extents[dim]
+    }
+
+    pub(crate) fn natural_extent(&self, dim: usize) -> u64
+        requires { dim < R }
+        ensures { result ≡ slice_index self.now dim }
+    {
+        natural_at(&self.extents, dim)
     }
 
     /// How many places there are.
