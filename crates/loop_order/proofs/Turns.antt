@@ -11,7 +11,7 @@ use Rattle.rank_shape.specs.declared.distance.Entry.{Entry}
 use Rattle.rank_shape.specs.declared.distance.Entry.TheVariants as entry
 use Rattle.rank_shape.specs.Order.{Level, IsOrder, loops_of}
 use Rattle.rank_shape.specs.Walk.{turns_of, tour_from, tour}
-use Rattle.rank_shape.proofs.Walks.{turns_below, tour_keeps}
+use Rattle.rank_shape.proofs.Walks.{turns_below, tour_keeps, tour_long}
 use Rattle.loop_order.specs.declared.sign.Sign.{Sign}
 use Rattle.loop_order.specs.declared.sign.Sign.TheVariants.{Unknown, Still, Up, Down}
 use Rattle.loop_order.specs.Legal.{sign_of, sign_at, meets, settles, IsLegal}
@@ -65,3 +65,82 @@ one_turn level inner distance i settled = by_sign (sign_at distance level.number
     by_sign Still is t = inl t
     by_sign Up is t = inr (λ differs. let later = up_later (get_or distance (level.number - 1) entry.Any) i i is differs in omega arith)
     by_sign Down is t = inr (λ differs. let earlier = down_earlier (get_or distance (level.number - 1) entry.Any) i i is differs in omega arith)
+
+-- the dimensions of two levels differ
+pub LevelApart : Level → Level → Type 0
+LevelApart level other = other.number - 1 ≢ level.number - 1
+
+each_from_one : (n most : ℕ) → n ≤ most → EachOf (λ b. (1 ≤ b) × (b ≤ most)) (down_to_one n)
+each_from_one zero most h = tt
+each_from_one (suc n) most h = ((omega arith, h), each_from_one n most (omega arith))
+
+numbers_apart : (n : ℕ) → AllLater (λ a b. b - 1 ≢ a - 1) (down_to_one n)
+numbers_apart zero = tt
+numbers_apart (suc n) =
+    (EachOf-weaker (λ b. (1 ≤ b) × (b ≤ n)) (λ b. b - 1 ≢ suc n - 1) (λ b known same. omega (arith, known.0, known.1)) (down_to_one n) (each_from_one n n (omega arith)), numbers_apart n)
+
+pub order_apart : (rank : ℕ) (order : List Level) → IsOrder rank order → AllLater LevelApart order
+unfolding LevelApart
+order_apart rank order holds =
+    AllLater-from_map (λ a b. b - 1 ≢ a - 1) (λ level. level.number) order
+    (Permuted-AllLater (λ a b. b - 1 ≢ a - 1) (λ a b apart same. apart (sym same)) (permuted_back holds) (numbers_apart rank))
+
+-- a turn in which the loop over this dimension has come to i
+record AtTurn (k i : ℕ) (place : List ℕ) : Type 0 where
+  is : get_or place k 0 ≡ i
+  inside : k < length place
+
+at_turn : (level : Level) (inner : List Level) (extents place : List ℕ) (i : ℕ) → EachOf (λ other. other.number - 1 ≢ level.number - 1) inner → length place ≡ length extents → i < get_or extents (level.number - 1) 0 → EachOf (AtTurn (level.number - 1) i) (tour_from inner extents (set place (level.number - 1) i))
+at_turn level inner extents place i apart long below =
+    let k : ℕ = level.number - 1 in
+    let start : List ℕ = set place k i in
+    let inside : k < length place =
+        elim (cases_lt k (length extents)) [ inl h ↦ omega arith | inr past ↦ (let gone = get_or_past extents k 0 past in absurd (omega arith)) ] in
+    EachOf-weaker (λ p. (get_or p k 0 ≡ get_or start k 0) × (length p ≡ length start)) (AtTurn k i)
+    (λ p known. record { is = known.0 ∙ get_or-set_same place k i 0 inside; inside = omega (arith, known.1, length-set place k i) })
+    (tour_from inner extents start)
+    (EachOf-both (λ p. get_or p k 0 ≡ get_or start k 0) (λ p. length p ≡ length start) (tour_from inner extents start) (tour_keeps inner extents start k apart) (tour_long inner extents start))
+
+differs_at : (distance : List Entry) (k i j : ℕ) (stores reads : List ℕ) → AtTurn k i stores → AtTurn k j reads → IsApart distance stores reads → Differs (get_or distance k entry.Any) i j
+differs_at distance k i j stores reads at_i at_j apart =
+    let P : ℕ → Type 0 = λ x. Differs (get_or distance k entry.Any) x (get_or reads k 0) in
+    let Q : ℕ → Type 0 = λ y. Differs (get_or distance k entry.Any) i y in
+    subst Q at_j.is (subst P at_i.is (apart_at distance stores reads k at_i.inside at_j.inside apart))
+
+-- no later turn of the loops reads what an earlier one stores
+never_later_from : (order : List Level) (distance : List Entry) (extents place : List ℕ) → IsTrue (settles order distance) → AllLater LevelApart order → length place ≡ length extents → AllLater (λ stores reads. IsApart distance stores reads → ⊥) (tour_from order extents place)
+unfolding LevelApart
+never_later_from [] distance extents place settled apart long = (tt, tt)
+never_later_from (level ∷ inner) distance extents place settled apart long =
+    let k : ℕ = level.number - 1 in
+    let extent : ℕ = get_or extents k 0 in
+    let turns : List ℕ = turns_of level.down extent in
+    let piece : ℕ → List (List ℕ) = λ i. tour_from inner extents (set place k i) in
+    let at : (i : ℕ) → i < extent → EachOf (AtTurn k i) (piece i) = λ i below. at_turn level inner extents place i apart.0 long below in
+    AllLater-flat_map (λ stores reads. IsApart distance stores reads → ⊥) piece turns
+    (EachOf-weaker (λ i. i < extent) (λ i. AllLater (λ stores reads. IsApart distance stores reads → ⊥) (piece i))
+    (λ i below.
+        elim (one_turn level (settles inner distance) distance i settled) [
+          inl inside ↦ never_later_from inner distance extents (set place k i) inside apart.1 (length-set place k i ∙ long)
+          | inr impossible ↦
+            AllLater-weaker_on (AtTurn k i) (λ stores reads. Unit {0}) (λ stores reads. IsApart distance stores reads → ⊥)
+            (λ stores reads at_i at_j u h. impossible (differs_at distance k i i stores reads at_i at_j h)) (piece i) (at i below) (AllLater-all (λ stores reads. Unit {0}) (λ stores reads. tt) (piece i))
+        ])
+    turns (turns_below level.down extent))
+    (AllLater-weaker_on (λ i. i < extent) (Before level.down) (λ i j. EachOf (λ stores. EachOf (λ reads. IsApart distance stores reads → ⊥) (piece j)) (piece i))
+    (λ i j i_below j_below before.
+        EachOf-weaker (AtTurn k i) (λ stores. EachOf (λ reads. IsApart distance stores reads → ⊥) (piece j))
+        (λ stores at_i.
+            EachOf-weaker (AtTurn k j) (λ reads. IsApart distance stores reads → ⊥)
+            (λ reads at_j h. never_later level (settles inner distance) distance i j settled before (differs_at distance k i j stores reads at_i at_j h)) (piece j) (at j j_below))
+        (piece i) (at i i_below))
+    turns (turns_below level.down extent) (turns_in_order level.down extent))
+
+pub never_later_in : (rank : ℕ) (order : List Level) (distance : List Entry) (extents : List ℕ) → IsOrder rank order → IsTrue (settles order distance) → AllLater (λ stores reads. IsApart distance stores reads → ⊥) (tour order extents)
+never_later_in rank order distance extents holds settled =
+    never_later_from order distance extents (map (λ extent. 0) extents) settled (order_apart rank order holds) (length-map extents (λ extent. 0))
+
+pub reads_first : (rank : ℕ) (order : List Level) (distances : List (List Entry)) (extents : List ℕ) → IsOrder rank order → IsLegal order distances → EachOf (λ distance. AllLater (λ stores reads. IsApart distance stores reads → ⊥) (tour order extents)) distances
+reads_first rank order distances extents holds legal =
+    EachOf-weaker (λ distance. IsTrue (settles order distance)) (λ distance. AllLater (λ stores reads. IsApart distance stores reads → ⊥) (tour order extents))
+    (λ distance settled. never_later_in rank order distance extents holds settled) distances legal
