@@ -82,7 +82,7 @@ some_head : (p : ℕ → Bool) (x : ℕ) (xs : List ℕ) (y : ℕ) (b : Bool) �
 some_head p x xs y true is found later = let same : x ≡ y = cc in (ap p (sym same) ∙ is, inl same)
 some_head p x xs y false is found later = let r = later found in (r.0, inr r.1)
 
-find_some : (p : ℕ → Bool) (xs : List ℕ) (y : ℕ) → find p xs ≡ Some y → (p y ≡ true) × Has xs y
+pub find_some : (p : ℕ → Bool) (xs : List ℕ) (y : ℕ) → find p xs ≡ Some y → (p y ≡ true) × Has xs y
 find_some p [] y is = cc
 find_some p (x ∷ xs) y is = some_head p x xs y (p x) refl is (find_some p xs y)
 
@@ -173,7 +173,7 @@ legal_without loop order distances legal =
 
 -- ---- the choice
 
-some_is : {A : Type 0} (a b : A) → Some a ≡ Some b → a ≡ b
+pub some_is : {A : Type 0} (a b : A) → Some a ≡ Some b → a ≡ b
 some_is a b same = cc
 
 or_left_true : (a b : Bool) → a ≡ true → (a || b) ≡ true

@@ -6,7 +6,7 @@ use Rattle.std.proofs.lemmas.Bool.{cases_lt, false≢true, not-true}
 use Rattle.std.proofs.lemmas.List.{reverse-append, get_or_past, get_or-set_same, length-set, length-map}
 use Rattle.a95_base.specs.Lists.{EachOf, AllLater, Has, Permuted, count_to, down_to_one}
 use Rattle.a95_base.proofs.Lists.{EachOf-append, EachOf-weaker, EachOf-all, EachOf-both, EachOf-from_map, each_below, AllLater-append, AllLater-weaker_on, AllLater-weaker, AllLater-both, AllLater-all, AllLater-flat_map, AllLater-from_map, count_to_rises}
-use Rattle.a95_base.proofs.Permuted.{permuted_back, Permuted-EachOf, Permuted-AllLater, Permuted-reverse}
+use Rattle.a95_base.proofs.Permuted.{each_from_one, permuted_back, Permuted-EachOf, Permuted-AllLater, Permuted-reverse}
 use Rattle.rank_shape.specs.declared.distance.Entry.{Entry}
 use Rattle.rank_shape.specs.declared.distance.Entry.TheVariants as entry
 use Rattle.rank_shape.specs.Order.{Level, IsOrder, loops_of}
@@ -69,10 +69,6 @@ one_turn level inner distance i settled = by_sign (sign_at distance level.number
 -- the dimensions of two levels differ
 pub LevelApart : Level → Level → Type 0
 LevelApart level other = other.number - 1 ≢ level.number - 1
-
-each_from_one : (n most : ℕ) → n ≤ most → EachOf (λ b. (1 ≤ b) × (b ≤ most)) (down_to_one n)
-each_from_one zero most h = tt
-each_from_one (suc n) most h = ((omega arith, h), each_from_one n most (omega arith))
 
 numbers_apart : (n : ℕ) → AllLater (λ a b. b - 1 ≢ a - 1) (down_to_one n)
 numbers_apart zero = tt

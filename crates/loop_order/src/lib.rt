@@ -2,4 +2,9 @@
 //! `specs/Legal.antt`, the greedy choice in `specs/Choice.antt`, and what a legal order gives in `specs/Apart.antt`.
 #![tactic(auto)]
 
+mod choice;
+mod order;
 mod sign;
+
+pub use choice::choose;
+pub use order::{legal, reads_come_first};

@@ -1,5 +1,7 @@
-ghost use Rattle.std.specs.Prelude.{◌≡◌};
-ghost use Rattle.loop_order.specs.Legal.{sign_of};
+ghost use Rattle.std.specs.Prelude.{◌≡◌, ◌+◌, ◌<◌, slice_index_or};
+ghost use Rattle.rank_shape.specs.declared.distance.Entry.TheVariants as entry;
+ghost use Rattle.loop_order.specs.Choice.{is_still};
+ghost use Rattle.loop_order.specs.Legal.{sign_of, sign_at};
 
 use rank_shape::Entry;
 
@@ -10,6 +12,14 @@ pub(crate) enum Sign {
     Still,
     Up,
     Down,
+}
+
+impl Sign {
+    pub(crate) fn is_still(self) -> bool
+        ensures { result ≡ is_still self }
+    {
+        matches!(self, Sign::Still)
+    }
 }
 
 pub(crate) fn sign_of(entry: Entry) -> Sign
@@ -26,4 +36,13 @@ pub(crate) fn sign_of(entry: Entry) -> Sign
             }
         }
     }
+}
+
+// The sign for the loop over this dimension, which is the loop of the next number.
+pub(crate) fn sign_in<const R: usize>(entries: &[Entry; R], dim: usize) -> Sign
+    requires { dim < R }
+    ensures entry { result ≡ sign_of (slice_index_or entries.now dim entry.Any) }
+    ensures at_loop { result ≡ sign_at entries.now (dim + 1) }
+{
+    sign_of(entries[dim])
 }

@@ -13,7 +13,7 @@ use Rattle.rank_shape.specs.Walk.{turns_of, tour_from, tour}
 use Rattle.rank_shape.proofs.Numbers.{place_within, number_of-place_at, place_at-number_of}
 use Rattle.rank_shape.proofs.Walks.{tour_keeps, tour_long, tour_within}
 use Rattle.rank_shape.proofs.Orders.{element_is_order}
-use Rattle.a95_base.proofs.Permuted.{permuted_back, Permuted-Has}
+use Rattle.a95_base.proofs.Permuted.{Has-down_to_one, permuted_back, Permuted-Has}
 
 size_of_take : (extents : List ℕ) (n : ℕ) → n < length extents → size_of (take (suc n) extents) ≡ size_of (take n extents) * get_or extents n 0
 size_of_take [] n below = absurd (omega arith)
@@ -97,11 +97,6 @@ element_numbers (suc n) extents place below long =
 map_same : {A : Type 0} (xs : List A) → map (λ (x : A). x) xs ≡ xs
 map_same [] = refl
 map_same (x ∷ xs) = ap (λ ys. x ∷ ys) (map_same xs)
-
-Has-down_to_one : (n k : ℕ) → 1 ≤ k → k ≤ n → Has (down_to_one n) k
-Has-down_to_one zero k least most = absurd (omega arith)
-Has-down_to_one (suc n) k least most =
-    elim (cases_eq (suc n) k) [ inl same ↦ inl same | inr apart ↦ inr (Has-down_to_one n k least (omega arith)) ]
 
 -- an order has a loop for each dimension
 pub order_covers : (rank : ℕ) (order : List Level) (k : ℕ) → IsOrder rank order → k < rank → Has (loops_of order) (suc k)

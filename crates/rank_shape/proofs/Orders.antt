@@ -1,7 +1,7 @@
 -- Orders as two lists of fields, and what each order's list of levels has.
 use Rattle.std.proofs.Common.{◌≡◌, ℕ, zero, suc, ◌+◌, ◌-◌, ◌<◌, ◌≤◌, Bool, true, false, eqb, List, [], ◌∷◌, ◌++◌, length, get_or, set, take, map, replicate, refl, sym, ap, ◌∙◌, subst, inl, inr, arith, append_assoc}
 use Rattle.a95_base.specs.Lists.{EachOf, Has, Permuted, down_to_one}
-use Rattle.a95_base.proofs.Permuted.{pigeonhole, permuted_back, permuted_equal, Permuted-EachOf}
+use Rattle.a95_base.proofs.Permuted.{pigeonhole, length-down_to_one, each_from_one, permuted_back, permuted_equal, Permuted-EachOf}
 use Rattle.std.proofs.lemmas.List.{length-replicate, take_more_set, take_all, append-nil}
 use Rattle.a95_base.proofs.Lists.{each_at, each_has, each_from_places, Has-get_or}
 use Rattle.std.specs.Prelude.{IsTrue, ◌↔◌}
@@ -32,10 +32,6 @@ level_down (n ∷ loops) [] k e below = absurd (omega arith)
 level_down (n ∷ loops) (d ∷ downs) zero e below = refl
 level_down (n ∷ loops) (d ∷ downs) (suc k) e below = level_down loops downs k (omega arith) (omega arith)
 
-each_from_one : (rank most : ℕ) → rank ≤ most → EachOf (λ n. (1 ≤ n) × (n ≤ most)) (down_to_one rank)
-each_from_one zero most h = tt
-each_from_one (suc rank) most h = ((omega arith, h), each_from_one rank most (omega arith))
-
 -- the loops of an order are numbered from 1 to the rank
 pub loops_in_range : (rank : ℕ) (order : List Level) → IsOrder rank order → EachOf (λ n. (1 ≤ n) × (n ≤ rank)) (loops_of order)
 loops_in_range rank order holds = Permuted-EachOf (λ n. (1 ≤ n) × (n ≤ rank)) (permuted_back holds) (each_from_one rank rank (omega arith))
@@ -58,10 +54,6 @@ element_loops (suc rank) = ap (λ ns. suc rank ∷ ns) (element_loops rank)
 
 pub element_is_order : (rank : ℕ) → IsOrder rank (element_order_of rank)
 element_is_order rank = permuted_equal (loops_of (element_order_of rank)) (down_to_one rank) (element_loops rank)
-
-pub length-down_to_one : (n : ℕ) → length (down_to_one n) ≡ n
-length-down_to_one zero = refl
-length-down_to_one (suc n) = ap suc (length-down_to_one n)
 
 pub element_fields : (rank : ℕ) (loops : List ℕ) → IsRank rank → loops ≡ down_to_one rank → OrderFields rank loops (replicate rank false)
 element_fields rank loops ranked is = record {

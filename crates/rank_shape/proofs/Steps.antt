@@ -6,11 +6,10 @@ use Rattle.std.proofs.lemmas.Int.{ints}
 use Rattle.std.proofs.lemmas.List.{drop_more, drop_all, map-set, length-map}
 use Rattle.a95_base.specs.Lists.{EachOf, Permuted, down_to_one}
 use Rattle.a95_base.proofs.Lists.{EachOf-set}
-use Rattle.a95_base.proofs.Permuted.{Permuted-length}
+use Rattle.a95_base.proofs.Permuted.{Permuted-length, length-down_to_one}
 use Rattle.rank_shape.specs.Shape.{AreNatural, naturals, size_of}
 use Rattle.rank_shape.specs.Order.{Level, IsOrder, level_at, loops_of}
 use Rattle.rank_shape.specs.Turn.{turns_in, subscript_at, visited}
-use Rattle.rank_shape.proofs.Orders.{length-down_to_one}
 use Rattle.rank_shape.proofs.Walks.{positive, tour_length, tour_turn}
 use Rattle.rank_shape.proofs.Reorders.{order_whole}
 use Rattle.rank_shape.specs.Walk.{tour, IsTour}

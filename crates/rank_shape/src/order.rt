@@ -1,4 +1,4 @@
-ghost use Rattle.std.specs.Prelude.{◌≡◌, ℕ, ◌<◌, ◌≤◌, ◌↔◌, IsSome, IfSome, IsTrue};
+ghost use Rattle.std.specs.Prelude.{◌≡◌, ℕ, ◌<◌, ◌≤◌, ◌↔◌, length, IsSome, IfSome, IsTrue};
 ghost use Rattle.a95_base.specs.Lists.{Has};
 ghost use Rattle.rank_shape.specs.Order.{levels, level_at, IsOrder, element_order_of};
 ghost use Rattle.rank_shape.specs.Shape.{IsRank};
@@ -85,6 +85,7 @@ impl<const R: usize> Order<R> {
     pub fn known(&self)
         ensures ranked { IsRank R }
         ensures order { IsOrder R self.now }
+        ensures long { length self.now ≡ R }
     {
         let _ = &self.loops;
     }
