@@ -25,7 +25,7 @@ map_twice f g None = refl
 map_twice f g (Some x) = refl
 
 -- what has been chosen so far, before what is left of the choice
-pub chosen_so_far : List Level → Option (List Level) → Option (List Level)
+abbrev pub chosen_so_far : List Level → Option (List Level) → Option (List Level)
 chosen_so_far outer = option_map (λ inner. outer ++ inner)
 
 pub start : (rank : ℕ) (distances : List (List Entry)) → choice rank (down_to_one rank) distances ≡ choice (rank - 0) (loops_left rank (replicate rank false)) (open_distances (replicate rank false) distances)
@@ -34,6 +34,10 @@ start rank distances =
     sym (ap (λ n. choice n (loops_left rank (replicate rank false)) (open_distances (replicate rank false) distances)) none
     ∙ ap (λ ls. choice rank ls (open_distances (replicate rank false) distances)) (all_left_at_first rank rank)
     ∙ ap (choice rank (down_to_one rank)) (all_open_at_first rank distances))
+
+pub start_level : (rank : ℕ) (loops : List ℕ) (downs : List Bool) (distances : List (List Entry)) → choice rank (down_to_one rank) distances ≡ chosen_so_far (levels (take 0 loops) (take 0 downs)) (choice (rank - 0) (loops_left rank (replicate rank false)) (open_distances (replicate rank false) distances))
+start_level rank loops downs distances =
+    start rank distances ∙ sym (map_same (choice (rank - 0) (loops_left rank (replicate rank false)) (open_distances (replicate rank false) distances)))
 
 -- a loop that is left is none of those taken
 pub record IsLeft (rank : ℕ) (taken : List Bool) (loop : ℕ) : Type 0 where
@@ -69,7 +73,6 @@ regroup outer here (Some inner) = ap Some (sym (append_assoc outer (here ∷ [])
 
 -- the invariant of the loop, one level on
 pub one_more_level : (rank level loop : ℕ) (taken downs : List Bool) (loops : List ℕ) (distances : List (List Entry)) (down : Bool) (whole : Option (List Level)) → level < rank → length loops ≡ rank → length downs ≡ rank → length taken ≡ rank → whole ≡ chosen_so_far (levels (take level loops) (take level downs)) (choice (rank - level) (loops_left rank taken) (open_distances taken distances)) → Some loop ≡ find (λ l. suits l (open_distances taken distances)) (loops_left rank taken) → down ≡ some_entry is_up loop (open_distances taken distances) → whole ≡ chosen_so_far (levels (take (level + 1) (set loops level loop)) (take (level + 1) (set downs level down))) (choice (rank - (level + 1)) (loops_left rank (set taken (loop - 1) true)) (open_distances (set taken (loop - 1) true) distances))
-unfolding chosen_so_far
 one_more_level rank level loop taken downs loops distances down whole below loops_long downs_long taken_long before found down_is =
     let count : ℕ = rank - (level + 1) in
     let one_more : rank - level ≡ suc count = omega arith in
@@ -89,7 +92,6 @@ one_more_level rank level loop taken downs loops distances down whole below loop
 
 -- where nothing suits, there is no choice
 pub gives_up : (rank level : ℕ) (taken : List Bool) (outer : List Level) (distances : List (List Entry)) (whole : Option (List Level)) → level < rank → whole ≡ chosen_so_far outer (choice (rank - level) (loops_left rank taken) (open_distances taken distances)) → None ≡ find (λ l. suits l (open_distances taken distances)) (loops_left rank taken) → None ≡ whole
-unfolding chosen_so_far
 gives_up rank level taken outer distances whole below before found =
     let one_more : rank - level ≡ suc (rank - (level + 1)) = omega arith in
     sym (before
@@ -98,7 +100,6 @@ gives_up rank level taken outer distances whole below before found =
 
 -- all levels are there
 pub whole_choice : (rank level : ℕ) (taken downs : List Bool) (loops : List ℕ) (distances : List (List Entry)) → rank ≤ level → length loops ≡ rank → length downs ≡ rank → choice rank (down_to_one rank) distances ≡ chosen_so_far (levels (take level loops) (take level downs)) (choice (rank - level) (loops_left rank taken) (open_distances taken distances)) → choice rank (down_to_one rank) distances ≡ Some (levels loops downs)
-unfolding chosen_so_far
 whole_choice rank level taken downs loops distances above loops_long downs_long before =
     let none_more : rank - level ≡ 0 = omega arith in
     before
