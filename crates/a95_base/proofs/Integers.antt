@@ -88,3 +88,20 @@ mul_cancel a b c some same =
     let size : unsigned_abs (a -ℤ b) * unsigned_abs c ≡ 0 = sym (unsigned_abs-mul (a -ℤ b) c) ∙ ap unsigned_abs gone in
     let apart : a -ℤ b ≡ pos 0 = abs_zero (a -ℤ b) (nothing (unsigned_abs (a -ℤ b)) (unsigned_abs c) size (abs_some c some)) in
     omega (arith, ints, apart)
+
+-- ---- two arithmetic progressions of one stride
+
+moved : (stored read x y : ℤ) → stored +ℤ x ≡ read +ℤ y → stored -ℤ read ≡ y -ℤ x
+moved stored read x y same = omega (arith, ints, same)
+
+-- where they meet, the starts are so many strides apart as the turns
+pub whole_between : (stored read stride t u : ℤ) → stored +ℤ t *ℤ stride ≡ read +ℤ u *ℤ stride → stored -ℤ read ≡ (u -ℤ t) *ℤ stride
+whole_between stored read stride t u same = moved stored read (t *ℤ stride) (u *ℤ stride) same ∙ sym (mul_sub u t stride)
+
+after : (u t z : ℤ) → u -ℤ t ≡ z → u ≡ t +ℤ z
+after u t z is = omega (arith, ints, is)
+
+-- where the starts are z strides apart, they meet only in turns that are z apart
+pub turns_between : (stored read stride t u z : ℤ) → stride ≢ pos 0 → stored -ℤ read ≡ z *ℤ stride → stored +ℤ t *ℤ stride ≡ read +ℤ u *ℤ stride → u ≡ t +ℤ z
+turns_between stored read stride t u z some apart same =
+    after u t z (mul_cancel (u -ℤ t) z stride some (sym (whole_between stored read stride t u same) ∙ apart))

@@ -8,3 +8,6 @@ mod sign;
 
 pub use choice::choose;
 pub use order::{legal, reads_come_first};
+
+#[cfg(test)]
+mod tests;

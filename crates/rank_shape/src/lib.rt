@@ -13,3 +13,6 @@ pub use distance::{Dist, Entry};
 pub use order::Order;
 pub use shape::{Place, Shape};
 pub use tour::{Tour, walk};
+
+#[cfg(test)]
+mod tests;
