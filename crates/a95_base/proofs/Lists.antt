@@ -1,5 +1,5 @@
 -- Laws of the words of `specs/Lists.antt`.
-use Rattle.std.proofs.Common.{◌≡◌, ◌⊎◌, ℕ, zero, suc, ◌+◌, ◌-◌, ◌<◌, ◌≤◌, List, [], ◌∷◌, ◌++◌, length, get_or, map, refl, sym, ap, ◌∙◌, subst, inl, inr, append_assoc, arith, length-append}
+use Rattle.std.proofs.Common.{◌≡◌, ◌⊎◌, ℕ, zero, suc, ◌+◌, ◌-◌, ◌<◌, ◌≤◌, List, [], ◌∷◌, ◌++◌, length, get_or, set, map, refl, sym, ap, ◌∙◌, subst, inl, inr, append_assoc, arith, length-append}
 use Rattle.std.specs.List.{flat_map}
 use Rattle.std.proofs.lemmas.List.{get_or_append_left, get_or_at}
 use Rattle.std.proofs.lemmas.Bool.{cases_lt}
@@ -52,6 +52,21 @@ pub each_from_has : {A : Type 0} (P : A → Type 0) (xs : List A) → ((y : A) �
 each_from_has P [] f = tt
 each_from_has P (x ∷ xs) f = (f x (inl refl), each_from_has P xs (λ y h. f y (inr h)))
 
+-- between what holds of each item and what holds at each place
+pub each_at : {A : Type 0} (P : A → Type 0) (xs : List A) (k : ℕ) (d : A) → EachOf P xs → k < length xs → P (get_or xs k d)
+each_at P [] k d p below = absurd (omega arith)
+each_at P (x ∷ xs) zero d p below = p.0
+each_at P (x ∷ xs) (suc k) d p below = each_at P xs k d p.1 (omega arith)
+
+pub each_from_places : {A : Type 0} (P : A → Type 0) (xs : List A) → ((k : ℕ) (d : A) → k < length xs → P (get_or xs k d)) → EachOf P xs
+each_from_places P [] f = tt
+each_from_places P (x ∷ xs) f = (f 0 x (omega arith), each_from_places P xs (λ k d below. f (suc k) d (omega arith)))
+
+pub EachOf-set : {A : Type 0} (P : A → Type 0) (xs : List A) (k : ℕ) (y : A) → P y → EachOf P xs → EachOf P (set xs k y)
+EachOf-set P [] k y q p = tt
+EachOf-set P (x ∷ xs) zero y q p = (q, p.1)
+EachOf-set P (x ∷ xs) (suc k) y q p = (p.0, EachOf-set P xs k y q p.1)
+
 -- a map by two functions that agree on each item
 pub map_agree : {A B : Type 0} (f g : A → B) (xs : List A) → EachOf (λ x. f x ≡ g x) xs → map f xs ≡ map g xs
 map_agree f g [] p = refl
@@ -76,6 +91,11 @@ pub Has-append_cases : {A : Type 0} (xs ys : List A) (y : A) → Has (xs ++ ys) 
 Has-append_cases [] ys y h = inr h
 Has-append_cases (x ∷ xs) ys y (inl e) = inl (inl e)
 Has-append_cases (x ∷ xs) ys y (inr h) = elim (Has-append_cases xs ys y h) [ inl k ↦ inl (inr k) | inr k ↦ inr k ]
+
+pub Has-get_or : {A : Type 0} (xs : List A) (k : ℕ) (d : A) → k < length xs → Has xs (get_or xs k d)
+Has-get_or [] k d below = absurd (omega arith)
+Has-get_or (x ∷ xs) zero d below = inl refl
+Has-get_or (x ∷ xs) (suc k) d below = inr (Has-get_or xs k d (omega arith))
 
 pub Has-map : {A B : Type 0} (f : A → B) (xs : List A) (y : A) → Has xs y → Has (map f xs) (f y)
 Has-map f [] y h = absurd h

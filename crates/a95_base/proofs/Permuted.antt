@@ -2,6 +2,7 @@
 use Rattle.std.proofs.Common.{◌≡◌, ◌⊎◌, ℕ, zero, suc, ◌+◌, ◌-◌, ◌<◌, ◌≤◌, List, [], ◌∷◌, ◌++◌, length, map, reverse, refl, sym, ap, ◌∙◌, subst, inl, inr, append_assoc, arith, length-append}
 use Rattle.std.specs.List.{flat_map}
 use Rattle.std.proofs.lemmas.List.{reverse-append}
+use Rattle.std.proofs.lemmas.Bool.{cases_eq}
 use Rattle.a95_base.specs.Lists.{EachOf, AllLater, Has, Permuted, down_to_one}
 use Rattle.a95_base.specs.Lists.Permuted.{none, skip, swap, join}
 use Rattle.a95_base.proofs.Lists.{Split, split_at, Has-append_cases, Has-append_left, Has-append_right}
@@ -146,3 +147,16 @@ pigeonhole (suc n) xs e h =
     join (permuted_equal xs (s.before ++ suc n ∷ s.behind) s.is)
     (join (to_front s.before (suc n) s.behind)
     (skip (suc n) (pigeonhole n (s.before ++ s.behind) (one_less s.before (suc n) s.behind xs n e s.is) (λ k low high. other s.before (suc n) s.behind k (let P : List ℕ → Type 0 = λ zs. Has zs k in subst P s.is (h k low (omega arith))) (omega arith)))))
+
+pub length-down_to_one : (n : ℕ) → length (down_to_one n) ≡ n
+length-down_to_one zero = refl
+length-down_to_one (suc n) = ap suc (length-down_to_one n)
+
+pub each_from_one : (n most : ℕ) → n ≤ most → EachOf (λ k. (1 ≤ k) × (k ≤ most)) (down_to_one n)
+each_from_one zero most h = tt
+each_from_one (suc n) most h = ((omega arith, h), each_from_one n most (omega arith))
+
+pub Has-down_to_one : (n k : ℕ) → 1 ≤ k → k ≤ n → Has (down_to_one n) k
+Has-down_to_one zero k least most = absurd (omega arith)
+Has-down_to_one (suc n) k least most =
+    elim (cases_eq (suc n) k) [ inl same ↦ inl same | inr apart ↦ inr (Has-down_to_one n k least (omega arith)) ]

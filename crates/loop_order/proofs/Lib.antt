@@ -1,0 +1,5 @@
+pub mod Signs
+pub mod Choices
+pub mod Turns
+pub mod Lefts
+pub mod Greedy

@@ -1,0 +1,4 @@
+pub mod Apart
+pub mod Choice
+pub mod Left
+pub mod Legal

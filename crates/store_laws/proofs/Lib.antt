@@ -1,0 +1,3 @@
+pub mod LegalLaws
+pub mod LoopLaws
+pub mod StoreLaws
