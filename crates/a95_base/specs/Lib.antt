@@ -1,4 +1,5 @@
 pub mod Fault
 pub mod Input
 pub mod Integer
+pub mod Lists
 pub mod Record
