@@ -1,5 +1,5 @@
-ghost use Rattle.std.specs.Prelude.{◌≡◌, ◌≤◌, ◌^◌, min, length, MatchOption, None, Some, IsTrue, ◌↔◌};
-ghost use Rattle.a95_base.specs.Input.{is_blank, is_separator, past_blanks, past_comma, past_gap, word_of, is_number, number_of, integer_of, next_value, record_length};
+ghost use Rattle.std.specs.Prelude.{◌≡◌, ◌==◌, ◌≤◌, ◌^◌, min, length, position, true, false, MatchOption};
+ghost use Rattle.a95_base.specs.Input.{is_blank, is_separator, past_blanks, past_comma, past_gap, word_of, is_number, number_of, positive_of, integer_of, next_value, record_length};
 ghost use Rattle.record_io.specs.Looked.{reading};
 
 /// What stands next in the input.
@@ -33,10 +33,16 @@ pub fn look(rest: &[u8], comma: bool) -> Looked
 pub fn after_record(rest: &[u8]) -> usize
     ensures { result ≡ record_length rest.now }
 {
-    match rest.iter().position(|byte| *byte == b'\n') {
+    match line_feed(rest) {
         Some(at) => at + 1,
         None => rest.len(),
     }
+}
+
+fn line_feed(rest: &[u8]) -> Option<usize>
+    ensures { result ≡ position (λ c. c == 10) rest.now }
+{
+    rest.iter().position(|byte| *byte == b'\n')
 }
 
 fn is_blank_byte(byte: u8) -> bool
@@ -56,13 +62,26 @@ fn skip_gap(text: &[u8], comma: bool) -> &[u8]
     ensures gap { result.now ≡ past_gap comma text.now }
     ensures within { length result.now ≤ length text.now }
 {
-    let text = skip_blanks(text);
-    if !comma {
-        return text;
+    if comma {
+        skip_blanks(skip_comma(skip_blanks(text)))
+    } else {
+        skip_blanks(text)
     }
+}
+
+fn skip_comma(text: &[u8]) -> &[u8]
+    ensures comma { result.now ≡ past_comma text.now }
+    ensures within { length result.now ≤ length text.now }
+{
     match text {
-        [b',', after @ ..] => skip_blanks(after),
-        _ => text,
+        [] => text,
+        [first, after @ ..] => {
+            if *first == b',' {
+                after
+            } else {
+                text
+            }
+        }
     }
 }
 
@@ -85,11 +104,12 @@ fn first_word(text: &[u8]) -> &[u8]
     ensures word { result.now ≡ word_of text.now }
     ensures within { length result.now ≤ length text.now }
 {
-    let mut end = 0;
-    while end < text.len() && !is_separator_byte(text[end]) {
-        end += 1;
+    for (end, byte) in text.iter().enumerate() {
+        if is_separator_byte(*byte) {
+            return &text[..end];
+        }
     }
-    &text[..end]
+    text
 }
 
 // The INTEGER that a word writes.

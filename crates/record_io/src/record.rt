@@ -1,6 +1,6 @@
 ghost use Rattle.std.specs.Prelude.{◌≡◌, [], ◌∷◌, ◌++◌, IfOk, OnOk, OnErr};
 ghost use Rattle.std.specs.Io.{StartsWith};
-ghost use Rattle.a95_base.specs.Record.{record_text};
+ghost use Rattle.a95_base.specs.Record.{is_text, record_text};
 ghost use Rattle.record_io.specs.Values.{added_text};
 
 use a95_base::{Memory, Scalar};
@@ -49,7 +49,7 @@ impl Record {
         ensures err { OnErr result (self.new ≡ self.old) }
     {
         put(self.alloc, &mut self.values, &mut self.text, self.after_text, value)?;
-        self.after_text = matches!(value, Scalar::Text(_));
+        self.after_text = is_text_value(value);
         Ok(())
     }
 
@@ -86,6 +86,12 @@ fn put(alloc: Global, values: &mut Vec<Scalar>, text: &mut Vec<u8>, after_text: 
         return Err(Memory);
     }
     Ok(())
+}
+
+fn is_text_value(value: &Scalar) -> bool
+    ensures { result ≡ is_text value.now }
+{
+    matches!(value, Scalar::Text(_))
 }
 
 fn copy_of(alloc: Global, value: &Scalar) -> Result<Scalar, AllocError>
