@@ -1,10 +1,10 @@
 -- Numbers that digits write, up to the largest that is told.
-use Rattle.std.proofs.Common.{◌≡◌, ℕ, ◌+◌, ◌-◌, ◌*◌, ◌^◌, ◌<◌, ◌≤◌, min, Bool, true, false, cond, ◌&&◌, List, [], ◌∷◌, length, refl, sym, ap, ◌∙◌, arith}
-use Rattle.std.specs.Prelude.{fold, Option, Some, None, position, nat_lt}
+use Rattle.std.proofs.Common.{◌≡◌, ℕ, ◌+◌, ◌-◌, ◌*◌, ◌^◌, ◌<◌, min, Bool, List, [], ◌∷◌, length, refl, arith}
+use Rattle.std.specs.Prelude.{fold, Some, None, position}
 use Rattle.std.specs.List.{list_all, position_or_len}
 use Rattle.std.proofs.lemmas.List.Folds.{fold_along}
 use Rattle.std.proofs.lemmas.Bool.Decides.{nat_tests}
-use Rattle.a95_base.specs.Input.{is_digit, is_number, number_of}
+use Rattle.a95_base.specs.Input.{is_digit, is_number}
 
 -- one digit more
 abbrev pub with_digit : ℕ → ℕ → ℕ

@@ -75,13 +75,7 @@ fn skip_comma(text: &[u8]) -> &[u8]
 {
     match text {
         [] => text,
-        [first, after @ ..] => {
-            if *first == b',' {
-                after
-            } else {
-                text
-            }
-        }
+        [first, after @ ..] => { if *first == b',' { after } else { text } }
     }
 }
 

@@ -4,7 +4,11 @@
 #![tactic(auto)]
 
 mod input;
+mod laws;
 mod record;
+#[cfg(test)]
+mod tests;
 
 pub use input::{Looked, after_record, look};
+pub use laws::input_rule;
 pub use record::Record;

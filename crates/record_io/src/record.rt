@@ -48,7 +48,13 @@ impl Record {
         ensures ok { OnOk result (self.new ≡ self.old ++ value.now ∷ []) }
         ensures err { OnErr result (self.new ≡ self.old) }
     {
-        put(self.alloc, &mut self.values, &mut self.text, self.after_text, value)?;
+        put(
+            self.alloc,
+            &mut self.values,
+            &mut self.text,
+            self.after_text,
+            value,
+        )?;
         self.after_text = is_text_value(value);
         Ok(())
     }
@@ -71,7 +77,13 @@ impl Record {
 }
 
 // Adds a value to the list and to the text.
-fn put(alloc: Global, values: &mut Vec<Scalar>, text: &mut Vec<u8>, after_text: bool, value: &Scalar) -> Result<(), Memory>
+fn put(
+    alloc: Global,
+    values: &mut Vec<Scalar>,
+    text: &mut Vec<u8>,
+    after_text: bool,
+    value: &Scalar,
+) -> Result<(), Memory>
     ensures values { OnOk result (values.new.items ≡ values.old.items ++ value.now ∷ []) }
     ensures text { OnOk result (text.new.items ≡ text.old.items ++ added_text after_text value.now) }
     ensures same_values { OnErr result (values.new.items ≡ values.old.items) }
