@@ -1,0 +1,6 @@
+pub mod Lines
+pub mod Characters
+pub mod State
+pub mod Values
+pub mod Machine
+pub mod Run

@@ -1,0 +1,13 @@
+//! LoopC, the language of scalar loops that the compiler writes and the machine runs. This crate owns its program: the
+//! tree that is built and read, and the flat list of lines that has one entry for each line of the text. The text
+//! stands in `specs/Text.antt`, what is a program in `specs/Program.antt`, one step of the machine in
+//! `specs/Machine.antt`, and whole runs in `specs/Run.antt`.
+#![tactic(auto)]
+
+mod atom;
+mod row;
+mod tree;
+
+pub use atom::{Argument, Atom, Letter, Operator, Reference, TextAtom};
+pub use row::{BlockRow, ControlRow, IntValue, RecordRow, Row, TextValue};
+pub use tree::{CodeLine, Function, Stmt};
