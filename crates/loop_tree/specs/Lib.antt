@@ -6,3 +6,4 @@ pub mod Machine
 pub mod Program
 pub mod Run
 pub mod Text
+pub mod RunLaws
