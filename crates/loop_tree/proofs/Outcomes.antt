@@ -1,10 +1,10 @@
 -- Outcomes of runs. None opens a step.
-use Rattle.std.proofs.Common.{◌≡◌, ◌⊎◌, ℕ, zero, suc, ◌+◌, ◌≤◌, ◌<◌, Bool, true, false, List, [], ◌∷◌, ◌++◌, Option, Some, None, refl, sym, ◌∙◌, ap, subst, inl, inr, arith, add_assoc, append_assoc, append-nil}
+use Rattle.std.proofs.Common.{◌≡◌, ℕ, zero, suc, ◌+◌, ◌≤◌, true, List, [], ◌++◌, Option, Some, None, refl, sym, ◌∙◌, ap, subst, inl, inr, arith, add_assoc, append_assoc, append-nil}
 use Rattle.loop_tree.specs.declared.tree.Function.{Function}
-use Rattle.loop_tree.specs.State.{State, Next, Goes, Ends, End}
+use Rattle.loop_tree.specs.State.{Next, Goes, Ends, End}
 use Rattle.loop_tree.specs.Machine.{step}
 use Rattle.loop_tree.specs.Run.{Trail, trail, count_turn, after, one_step, walk, Leads, begins_turn, Outcome, Finished, Going, FinishesAt, GoesOnAt, Runs}
-use Rattle.loop_tree.specs.RunLaws.{IsFront, HasOutcome, OneOutcome, EndStays, OutputGrows, TurnsAdd}
+use Rattle.loop_tree.specs.RunLaws.{IsFront, OneOutcome, EndStays, OutputGrows, TurnsAdd}
 use Rattle.loop_tree.proofs.Runs.{joins, linear, grows, last, not_past, Grows}
 
 -- ---- one outcome
@@ -29,23 +29,26 @@ end_waits functions a b how same e w =
 end_and_wait : (functions : List Function) (start : Trail) (limit : ℕ) (told other : List ℕ) (how : End) → FinishesAt functions start limit told how → GoesOnAt functions start limit other → ⊥
 end_and_wait functions start limit told other how f g =
     elim (linear functions start f.last g.last f.leads g.leads) [
-      inl way ↦ end_waits functions f.last g.last how (last functions f.last g.last how f.ends way) f.ends g.waits
-    | inr way ↦ let h : f.last.turns ≤ g.last.turns = omega (arith, f.within, g.spent) in
-        end_waits functions f.last g.last how (sym (not_past functions g.last f.last g.waits h way)) f.ends g.waits ]
+      | inl way ↦ end_waits functions f.last g.last how (last functions f.last g.last how f.ends way) f.ends g.waits
+      | inr way ↦ let h : f.last.turns ≤ g.last.turns = omega (arith, f.within, g.spent) in
+          end_waits functions f.last g.last how (sym (not_past functions g.last f.last g.waits h way)) f.ends g.waits
+    ]
 
 two_waits : (functions : List Function) (start : Trail) (limit : ℕ) (told other : List ℕ) (f : GoesOnAt functions start limit told) (g : GoesOnAt functions start limit other) → g.last ≡ f.last
 two_waits functions start limit told other f g =
     let below : g.last.turns ≤ f.last.turns = omega (arith, f.spent, g.spent) in
     let above : f.last.turns ≤ g.last.turns = omega (arith, f.spent, g.spent) in
     elim (linear functions start f.last g.last f.leads g.leads) [
-      inl way ↦ not_past functions f.last g.last f.waits below way
-    | inr way ↦ sym (not_past functions g.last f.last g.waits above way) ]
+      | inl way ↦ not_past functions f.last g.last f.waits below way
+      | inr way ↦ sym (not_past functions g.last f.last g.waits above way)
+    ]
 
 pub one_outcome : OneOutcome
 one_outcome functions start limit told other (Finished how) (Finished second) f g =
     elim (linear functions start f.last g.last f.leads g.leads) [
-      inl way ↦ two_ends functions start limit told other how second f g (last functions f.last g.last how f.ends way)
-    | inr way ↦ two_ends functions start limit told other how second f g (sym (last functions g.last f.last second g.ends way)) ]
+      | inl way ↦ two_ends functions start limit told other how second f g (last functions f.last g.last how f.ends way)
+      | inr way ↦ two_ends functions start limit told other how second f g (sym (last functions g.last f.last second g.ends way))
+    ]
 one_outcome functions start limit told other (Finished how) Going f g = absurd (end_and_wait functions start limit told other how f g)
 one_outcome functions start limit told other Going (Finished how) f g = absurd (end_and_wait functions start limit other told how g f)
 one_outcome functions start limit told other Going Going f g = (sym f.wrote ∙ (ap (λ (t : Trail). t.told) (sym (two_waits functions start limit told other f g)) ∙ g.wrote), refl)
@@ -70,13 +73,15 @@ output_grows functions start limit more told other (Finished how) (Finished seco
 output_grows functions start limit more told other (Finished how) Going h f g = absurd (end_and_wait functions start more told other how (end_stays functions start limit more told how h f) g)
 output_grows functions start limit more told other Going (Finished how) h f g =
     elim (linear functions start f.last g.last f.leads g.leads) [
-      inl way ↦ front_by f.last g.last told other (grows functions f.last g.last way) f.wrote g.wrote
-    | inr way ↦ front_of_same f.last g.last told other (sym (last functions g.last f.last how g.ends way)) f.wrote g.wrote ]
+      | inl way ↦ front_by f.last g.last told other (grows functions f.last g.last way) f.wrote g.wrote
+      | inr way ↦ front_of_same f.last g.last told other (sym (last functions g.last f.last how g.ends way)) f.wrote g.wrote
+    ]
 output_grows functions start limit more told other Going Going h f g =
     elim (linear functions start f.last g.last f.leads g.leads) [
-      inl way ↦ front_by f.last g.last told other (grows functions f.last g.last way) f.wrote g.wrote
-    | inr way ↦ let above : f.last.turns ≤ g.last.turns = omega (arith, f.spent, g.spent) in
-        front_of_same f.last g.last told other (sym (not_past functions g.last f.last g.waits above way)) f.wrote g.wrote ]
+      | inl way ↦ front_by f.last g.last told other (grows functions f.last g.last way) f.wrote g.wrote
+      | inr way ↦ let above : f.last.turns ≤ g.last.turns = omega (arith, f.spent, g.spent) in
+          front_of_same f.last g.last told other (sym (not_past functions g.last f.last g.waits above way)) f.wrote g.wrote
+    ]
 
 -- ---- turns and output before a place don't matter
 

@@ -1,9 +1,9 @@
 -- Laws of runs. None opens a step.
-use Rattle.std.proofs.Common.{◌≡◌, ◌⊎◌, ℕ, zero, suc, ◌+◌, ◌-◌, ◌≤◌, ◌<◌, Bool, true, false, List, [], ◌∷◌, ◌++◌, Option, Some, None, option_map, refl, sym, ◌∙◌, ap, subst, inl, inr, arith, zero-add, suc-add, append_assoc, append-nil}
+use Rattle.std.proofs.Common.{◌≡◌, ◌⊎◌, ℕ, zero, suc, ◌+◌, ◌-◌, ◌≤◌, ◌<◌, true, false, List, [], ◌++◌, Option, Some, None, refl, sym, ◌∙◌, ap, subst, inl, inr, arith, zero-add, suc-add, append_assoc, append-nil}
 use Rattle.loop_tree.specs.declared.tree.Function.{Function}
-use Rattle.loop_tree.specs.State.{State, Next, Goes, Ends, End}
+use Rattle.loop_tree.specs.State.{Next, Goes, Ends, End}
 use Rattle.loop_tree.specs.Machine.{step}
-use Rattle.loop_tree.specs.Run.{Trail, trail, count_turn, after, one_step, walk, Leads, begins_turn, Outcome, Finished, Going, FinishesAt, GoesOnAt, Runs}
+use Rattle.loop_tree.specs.Run.{Trail, trail, count_turn, after, one_step, walk, Leads, begins_turn}
 
 -- ---- steps
 

@@ -1,5 +1,5 @@
 -- One step of a LoopC program: one case for each row of the grammar.
-use Rattle.std.specs.Prelude.{ℕ, zero, suc, ℤ, pos, ◌+ℤ◌, ◌-ℤ◌, ◌+◌, ◌==◌, Bool, true, false, not, ◌&&◌, cond, int_lt, int_le, if◌then◌else◌, List, [], ◌∷◌, ◌++◌, map, length, drop, slice_get, Option, Some, None, Result, Ok, Err}
+use Rattle.std.specs.Prelude.{ℕ, zero, suc, ℤ, pos, ◌+ℤ◌, ◌-ℤ◌, Bool, true, false, ◌&&◌, int_lt, int_le, if◌then◌else◌, List, [], ◌∷◌, ◌++◌, map, drop, slice_get, Option, Some, None, Result, Ok, Err}
 use Rattle.std.specs.Int.{w64, int_wrap}
 use Rattle.std.specs.List.{list_all}
 use Rattle.a95_base.specs.declared.scalar.Scalar.{Scalar}
@@ -29,7 +29,7 @@ use Rattle.loop_tree.specs.declared.tree.CodeLine.{CodeLine}
 use Rattle.loop_tree.specs.declared.tree.CodeLine.TheVariants as code
 use Rattle.loop_tree.specs.declared.tree.Function.{Function}
 use Rattle.loop_tree.specs.Lines.{lines_of}
-use Rattle.loop_tree.specs.State.{Brace, Choice, Upward, Downward, Forever, Cells, Ints, Texts, Block, Frame, State, End, Ended, Faulted, Stuck, Next, Goes, Ends, with_at, with_frame, with_rest, with_place, set_int, set_index, set_text, set_int_block, set_text_block, cells_at, with_cells, without, made_before, with_new_block, with_blocks}
+use Rattle.loop_tree.specs.State.{Brace, Choice, Upward, Downward, Forever, Cells, Ints, Texts, Block, Frame, State, Ended, Faulted, Stuck, Next, Goes, Ends, with_frame, with_rest, with_place, set_int, set_index, set_text, set_int_block, set_text_block, cells_at, with_cells, without, made_before, with_new_block, with_blocks}
 use Rattle.loop_tree.specs.Values.{number_at, block_at, atom_of, text_of, block_of, holds, and_then, ints_of, texts_of, stored, zeros, texts_of_length, grown, is_live, int_value, text_value}
 
 -- a step that begins no turn and writes nothing
@@ -267,7 +267,7 @@ callee s function arguments = record {
   text_blocks = map (texts_passed s) arguments;
   line = 0;
   mark = s.made;
-  }
+}
 
 abbrev pub enter : State → Function → List Argument → State
 enter s function arguments = record s { now = callee s function arguments; callers = s.now ∷ s.callers }

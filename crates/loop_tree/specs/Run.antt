@@ -3,7 +3,7 @@ use Rattle.std.specs.Prelude.{◌≡◌, ℕ, zero, suc, ◌+◌, ◌≤◌, Boo
 use Rattle.loop_tree.specs.declared.tree.Function.{Function}
 use Rattle.loop_tree.specs.declared.tree.CodeLine.{CodeLine}
 use Rattle.loop_tree.specs.Lines.{lines_of}
-use Rattle.loop_tree.specs.State.{Frame, State, End, Ended, Faulted, Stuck, Next, Goes, Ends}
+use Rattle.loop_tree.specs.State.{Frame, State, End, Next, Goes, Ends}
 use Rattle.loop_tree.specs.Machine.{step}
 
 -- a state, with the number of turns that were begun and the bytes that were written before it
@@ -84,7 +84,7 @@ first_frame functions = record {
   text_blocks = [];
   line = 0;
   mark = 0;
-  }
+}
 
 -- function 0 is entered, and all input is left
 abbrev pub start : List Function → List ℕ → State
@@ -95,7 +95,7 @@ start functions input = record {
   made = 0;
   pending = [];
   input = input;
-  }
+}
 
 -- what a program does on an input within so many turns: what it writes, and the outcome
 abbrev pub Mach : List Function → List ℕ → ℕ → List ℕ → Outcome → Type 0

@@ -1,9 +1,12 @@
 -- What the run of a program is known to be, whatever the rows do.
-use Rattle.std.specs.Prelude.{◌≡◌, ◌⊎◌, ℕ, ◌+◌, ◌≤◌, Bool, true, List, [], ◌++◌}
+use Rattle.std.specs.Prelude.{◌≡◌, ◌⊎◌, ℕ, ◌+◌, ◌≤◌, true, List, [], ◌++◌}
 use Rattle.loop_tree.specs.declared.tree.Function.{Function}
-use Rattle.loop_tree.specs.State.{State, End, Ends}
-use Rattle.loop_tree.specs.Machine.{step}
-use Rattle.loop_tree.specs.Run.{Trail, trail, Leads, begins_turn, Outcome, Finished, Going, FinishesAt, GoesOnAt, Runs}
+use Rattle.loop_tree.specs.declared.tree.Stmt.{Stmt}
+use Rattle.loop_tree.specs.declared.tree.CodeLine.{CodeLine}
+use Rattle.loop_tree.specs.Lines.{flats}
+use Rattle.loop_tree.specs.State.{End, Ends}
+use Rattle.loop_tree.specs.Machine.{step, exits}
+use Rattle.loop_tree.specs.Run.{Trail, trail, Leads, begins_turn, Outcome, Finished, GoesOnAt, Runs}
 
 -- the first list is the front of the second
 pub record IsFront (front whole : List ℕ) : Type 0 where
@@ -54,3 +57,7 @@ EndIsLast = (functions : List Function) (a b : Trail) (how : End) → step funct
 -- where a turn would begin, no run goes on that begins no further turn
 abbrev pub TurnIsCounted : Type 0
 TurnIsCounted = (functions : List Function) (a b : Trail) → begins_turn (step functions a.state) ≡ true → b.turns ≤ a.turns → Leads functions a b → b ≡ a
+
+-- whole statements leave the braces around them alone
+abbrev pub StatementsPass : Type 0
+StatementsPass = (body : List Stmt) (lines : List CodeLine) → exits (flats body ++ lines) ≡ exits lines

@@ -1,10 +1,9 @@
 -- What a row reads. A value or the number of the stuck state: 1 for an index outside its block, 2 for a reference to
 -- no living block, 3 for a divisor 0, 5 for a size, 6 for a part of a text, 7 for a byte, 9 for an exponent.
-use Rattle.std.specs.Prelude.{ℕ, zero, suc, ℤ, pos, negsuc, ◌+ℤ◌, ◌-ℤ◌, ◌*ℤ◌, ◌+◌, ◌-◌, ◌^◌, ◌==◌, Bool, true, false, not, cond, ◌&&◌, ◌||◌, nat_lt, nat_le, int_lt, int_le, int_div, int_rem, unsigned_abs, if◌then◌else◌, List, [], ◌∷◌, ◌++◌, length, get_or, set, replicate, Option, Some, None, Result, Ok, Err}
+use Rattle.std.specs.Prelude.{ℕ, ℤ, pos, negsuc, ◌+ℤ◌, ◌-ℤ◌, ◌*ℤ◌, ◌+◌, ◌-◌, ◌^◌, Bool, true, false, not, ◌&&◌, nat_lt, nat_le, int_lt, int_le, int_div, int_rem, if◌then◌else◌, List, [], ◌∷◌, ◌++◌, length, get_or, set, replicate, Option, None, Result, Ok, Err}
 use Rattle.std.specs.Int.{w64, int_wrap, int_pow, int_bit_and, int_bit_or, int_bit_xor}
 use Rattle.std.specs.Ordering.{int_eq}
 use Rattle.a95_base.specs.Integer.{wrapped}
-use Rattle.a95_base.specs.Input as input
 use Rattle.a95_base.specs.Input.{Reading, Integer, NoMore, NoInteger, next_value}
 use Rattle.loop_tree.specs.declared.atom.Atom.{Atom}
 use Rattle.loop_tree.specs.declared.atom.Atom.TheVariants as atom
@@ -19,7 +18,7 @@ use Rattle.loop_tree.specs.declared.row.IntValue.TheVariants as int
 use Rattle.loop_tree.specs.declared.row.TextValue.{TextValue}
 use Rattle.loop_tree.specs.declared.row.TextValue.TheVariants as words
 use Rattle.loop_tree.specs.Characters.{fit, compare_padded, first_place, trim, adjust_left, adjust_right, part_of, over}
-use Rattle.loop_tree.specs.State.{Cells, Ints, Texts, Block, State, Frame, cells_at}
+use Rattle.loop_tree.specs.State.{Cells, Ints, Texts, Block, State, cells_at}
 
 -- ---- atoms
 

@@ -1,7 +1,6 @@
+use crate::atom::{Argument, Atom, Operator, Reference, TextAtom};
 use a95_base::FaultKind;
 use sqlite_items::Items;
-
-use crate::atom::{Argument, Atom, Operator, Reference, TextAtom};
 
 /// What stands on the right of `iN = ..;`.
 #[derive(Debug, Drop)]

@@ -1,7 +1,6 @@
-use sqlite_items::Items;
-
 use crate::atom::{Atom, Letter};
 use crate::row::Row;
+use sqlite_items::Items;
 
 /// A statement, with the statements inside it.
 #[derive(Debug, Drop)]
