@@ -1,3 +1,4 @@
-pub mod Runs
-pub mod Outcomes
 pub mod Balanced
+pub mod Octal
+pub mod Outcomes
+pub mod Runs

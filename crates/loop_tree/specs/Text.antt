@@ -1,6 +1,6 @@
 -- The text of a LoopC program: how each row is spelled.
 use Rattle.std.specs.Prelude.{ℕ, ◌+◌, ◌/◌, ◌%◌, ◌==◌, Bool, not, ◌&&◌, nat_le, if◌then◌else◌, List, [], ◌∷◌, ◌++◌, map, codes, decimal}
-use Rattle.std.specs.List.{concat}
+use Rattle.std.specs.List.{concat, flat_map}
 use Rattle.std.specs.Fmt.{signed_decimal}
 use Rattle.a95_base.specs.Fault.{fault_number}
 use Rattle.loop_tree.specs.declared.atom.Letter.{Letter}
@@ -51,8 +51,7 @@ abbrev pub byte_text : ℕ → List ℕ
 byte_text c = if is_plain c then c ∷ [] else (92 ∷ octal c)
 
 abbrev pub bytes_text : List ℕ → List ℕ
-bytes_text [] = []
-bytes_text (c ∷ cs) = byte_text c ++ bytes_text cs
+bytes_text bytes = flat_map byte_text bytes
 
 abbrev pub text_atom_text : TextAtom → List ℕ
 text_atom_text (text.Variable n) = codes "s" ++ decimal n
@@ -67,11 +66,13 @@ argument_text (argument.Int a) = atom_text a
 argument_text (argument.Text t) = text_atom_text t
 argument_text (argument.Block r) = reference_text r
 
--- parted by a comma and a blank
+-- the first, and each other one behind a comma and a blank
+abbrev pub listed_by : {A : Type 0} → (A → List ℕ) → List A → List ℕ
+listed_by spelled [] = []
+listed_by spelled (x ∷ more) = spelled x ++ flat_map (λ y. codes ", " ++ spelled y) more
+
 abbrev pub listed : List (List ℕ) → List ℕ
-listed [] = []
-listed (x ∷ []) = x
-listed (x ∷ y ∷ more) = x ++ (codes ", " ++ listed (y ∷ more))
+listed texts = listed_by (λ t. t) texts
 
 abbrev pub operator_text : Operator → List ℕ
 operator_text operator.Add = codes "+"
@@ -88,76 +89,76 @@ operator_text operator.Or = codes "|"
 
 -- ---- the call of a built-in
 
-abbrev pub call_text : List ℕ → List (List ℕ) → List ℕ
-call_text name arguments = name ++ (codes "(" ++ (listed arguments ++ codes ")"))
+abbrev pub call_text : List ℕ → List ℕ → List ℕ
+call_text name arguments = concat (name ∷ codes "(" ∷ arguments ∷ codes ")" ∷ [])
 
 abbrev pub int_value_text : IntValue → List ℕ
 int_value_text (int.Atom a) = atom_text a
-int_value_text (int.Operation a op b) = concat (atom_text a ∷ codes " " ∷ operator_text op ∷ codes " " ∷ atom_text b ∷ [])
+int_value_text (int.Operation a op b) = atom_text a ++ (codes " " ++ (operator_text op ++ (codes " " ++ atom_text b)))
 int_value_text (int.Cell n a) = concat (codes "b" ∷ decimal n ∷ codes "[" ∷ atom_text a ∷ codes "]" ∷ [])
-int_value_text (int.Wrap a) = call_text (codes "f_wrap") (atom_text a ∷ [])
-int_value_text (int.Power a b) = call_text (codes "f_pow") (atom_text a ∷ atom_text b ∷ [])
-int_value_text (int.Xor a b) = call_text (codes "f_xor") (atom_text a ∷ atom_text b ∷ [])
-int_value_text (int.Length t) = call_text (codes "f_len") (text_atom_text t ∷ [])
-int_value_text (int.Index t u) = call_text (codes "f_index") (text_atom_text t ∷ text_atom_text u ∷ [])
-int_value_text (int.Code t) = call_text (codes "f_code") (text_atom_text t ∷ [])
-int_value_text (int.Compare t u) = call_text (codes "f_cmp") (text_atom_text t ∷ text_atom_text u ∷ [])
-int_value_text (int.Size r) = call_text (codes "f_size") (reference_text r ∷ [])
-int_value_text (int.Live r) = call_text (codes "f_live") (reference_text r ∷ [])
+int_value_text (int.Wrap a) = call_text (codes "f_wrap") (atom_text a)
+int_value_text (int.Power a b) = call_text (codes "f_pow") (listed (atom_text a ∷ atom_text b ∷ []))
+int_value_text (int.Xor a b) = call_text (codes "f_xor") (listed (atom_text a ∷ atom_text b ∷ []))
+int_value_text (int.Length t) = call_text (codes "f_len") (text_atom_text t)
+int_value_text (int.Index t u) = call_text (codes "f_index") (listed (text_atom_text t ∷ text_atom_text u ∷ []))
+int_value_text (int.Code t) = call_text (codes "f_code") (text_atom_text t)
+int_value_text (int.Compare t u) = call_text (codes "f_cmp") (listed (text_atom_text t ∷ text_atom_text u ∷ []))
+int_value_text (int.Size r) = call_text (codes "f_size") (reference_text r)
+int_value_text (int.Live r) = call_text (codes "f_live") (reference_text r)
 int_value_text int.Depth = call_text (codes "f_depth") []
 int_value_text int.More = call_text (codes "f_more") []
-int_value_text (int.Look a) = call_text (codes "f_look") (atom_text a ∷ [])
-int_value_text (int.Take a) = call_text (codes "f_take") (atom_text a ∷ [])
+int_value_text (int.Look a) = call_text (codes "f_look") (atom_text a)
+int_value_text (int.Take a) = call_text (codes "f_take") (atom_text a)
 
 abbrev pub text_value_text : TextValue → List ℕ
 text_value_text (words.Atom t) = text_atom_text t
 text_value_text (words.Cell n a) = concat (codes "c" ∷ decimal n ∷ codes "[" ∷ atom_text a ∷ codes "]" ∷ [])
-text_value_text (words.Join t u) = call_text (codes "f_cat") (text_atom_text t ∷ text_atom_text u ∷ [])
-text_value_text (words.Part t a b) = call_text (codes "f_sub") (text_atom_text t ∷ atom_text a ∷ atom_text b ∷ [])
-text_value_text (words.Over t a u) = call_text (codes "f_over") (text_atom_text t ∷ atom_text a ∷ text_atom_text u ∷ [])
-text_value_text (words.Fit t a) = call_text (codes "f_fit") (text_atom_text t ∷ atom_text a ∷ [])
-text_value_text (words.Trim t) = call_text (codes "f_trim") (text_atom_text t ∷ [])
-text_value_text (words.Left t) = call_text (codes "f_left") (text_atom_text t ∷ [])
-text_value_text (words.Right t) = call_text (codes "f_right") (text_atom_text t ∷ [])
-text_value_text (words.Char a) = call_text (codes "f_chr") (atom_text a ∷ [])
+text_value_text (words.Join t u) = call_text (codes "f_cat") (listed (text_atom_text t ∷ text_atom_text u ∷ []))
+text_value_text (words.Part t a b) = call_text (codes "f_sub") (listed (text_atom_text t ∷ atom_text a ∷ atom_text b ∷ []))
+text_value_text (words.Over t a u) = call_text (codes "f_over") (listed (text_atom_text t ∷ atom_text a ∷ text_atom_text u ∷ []))
+text_value_text (words.Fit t a) = call_text (codes "f_fit") (listed (text_atom_text t ∷ atom_text a ∷ []))
+text_value_text (words.Trim t) = call_text (codes "f_trim") (text_atom_text t)
+text_value_text (words.Left t) = call_text (codes "f_left") (text_atom_text t)
+text_value_text (words.Right t) = call_text (codes "f_right") (text_atom_text t)
+text_value_text (words.Char a) = call_text (codes "f_chr") (atom_text a)
 
 -- ---- rows, without the semicolon
 
 -- `bN = ..`
 abbrev pub set_text_of : List ℕ → ℕ → List ℕ → List ℕ
-set_text_of letter n value = concat (letter ∷ decimal n ∷ codes " = " ∷ value ∷ [])
+set_text_of letter n value = letter ++ (decimal n ++ (codes " = " ++ value))
 
 abbrev pub cell_text : List ℕ → ℕ → Atom → List ℕ → List ℕ
-cell_text letter n place value = concat (letter ∷ decimal n ∷ codes "[" ∷ atom_text place ∷ codes "] = " ∷ value ∷ [])
+cell_text letter n place value = letter ++ (decimal n ++ (codes "[" ++ (atom_text place ++ (codes "] = " ++ value))))
 
 abbrev pub block_row_text : BlockRow → List ℕ
 block_row_text (block.StoreInt n i a) = cell_text (codes "b") n i (atom_text a)
 block_row_text (block.StoreText n i t) = cell_text (codes "c") n i (text_atom_text t)
-block_row_text (block.New n a) = set_text_of (codes "b") n (call_text (codes "f_new") (atom_text a ∷ []))
-block_row_text (block.Temp n a) = set_text_of (codes "b") n (call_text (codes "f_temp") (atom_text a ∷ []))
-block_row_text (block.Copy n a) = set_text_of (codes "b") n (call_text (codes "f_copy") (atom_text a ∷ []))
-block_row_text (block.Mark n a) = set_text_of (codes "b") n (call_text (codes "f_mark") (atom_text a ∷ []))
-block_row_text (block.NewText n a b) = set_text_of (codes "c") n (call_text (codes "f_new_text") (atom_text a ∷ atom_text b ∷ []))
-block_row_text (block.TempText n a) = set_text_of (codes "c") n (call_text (codes "f_temp_text") (atom_text a ∷ []))
-block_row_text (block.CopyText n a) = set_text_of (codes "c") n (call_text (codes "f_copy_text") (atom_text a ∷ []))
+block_row_text (block.New n a) = set_text_of (codes "b") n (call_text (codes "f_new") (atom_text a))
+block_row_text (block.Temp n a) = set_text_of (codes "b") n (call_text (codes "f_temp") (atom_text a))
+block_row_text (block.Copy n a) = set_text_of (codes "b") n (call_text (codes "f_copy") (atom_text a))
+block_row_text (block.Mark n a) = set_text_of (codes "b") n (call_text (codes "f_mark") (atom_text a))
+block_row_text (block.NewText n a b) = set_text_of (codes "c") n (call_text (codes "f_new_text") (listed (atom_text a ∷ atom_text b ∷ [])))
+block_row_text (block.TempText n a) = set_text_of (codes "c") n (call_text (codes "f_temp_text") (atom_text a))
+block_row_text (block.CopyText n a) = set_text_of (codes "c") n (call_text (codes "f_copy_text") (atom_text a))
 block_row_text (block.SameInts n m) = set_text_of (codes "b") n (codes "b" ++ decimal m)
 block_row_text (block.SameTexts n m) = set_text_of (codes "c") n (codes "c" ++ decimal m)
-block_row_text (block.Grow r a) = call_text (codes "f_grow") (reference_text r ∷ atom_text a ∷ [])
-block_row_text (block.Free r) = call_text (codes "f_free") (reference_text r ∷ [])
+block_row_text (block.Grow r a) = call_text (codes "f_grow") (listed (reference_text r ∷ atom_text a ∷ []))
+block_row_text (block.Free r) = call_text (codes "f_free") (reference_text r)
 
 abbrev pub control_row_text : ControlRow → List ℕ
 control_row_text control.Break = codes "break"
 control_row_text control.Continue = codes "continue"
 control_row_text control.Return = codes "return"
-control_row_text (control.Call n arguments) = call_text (codes "f" ++ decimal n) (map argument_text arguments)
+control_row_text (control.Call n arguments) = call_text (codes "f" ++ decimal n) (listed_by argument_text arguments)
 control_row_text control.Stop = call_text (codes "f_stop") []
-control_row_text (control.Fault kind) = call_text (codes "f_fault") (decimal (fault_number kind) ∷ [])
-control_row_text (control.At n) = call_text (codes "f_at") (decimal n ∷ [])
+control_row_text (control.Fault kind) = call_text (codes "f_fault") (decimal (fault_number kind))
+control_row_text (control.At n) = call_text (codes "f_at") (decimal n)
 
 abbrev pub record_row_text : RecordRow → List ℕ
-record_row_text (record_row.PutInt a) = call_text (codes "f_put_int") (atom_text a ∷ [])
-record_row_text (record_row.PutLog a) = call_text (codes "f_put_log") (atom_text a ∷ [])
-record_row_text (record_row.PutText t) = call_text (codes "f_put_text") (text_atom_text t ∷ [])
+record_row_text (record_row.PutInt a) = call_text (codes "f_put_int") (atom_text a)
+record_row_text (record_row.PutLog a) = call_text (codes "f_put_log") (atom_text a)
+record_row_text (record_row.PutText t) = call_text (codes "f_put_text") (text_atom_text t)
 record_row_text record_row.Write = call_text (codes "f_record") []
 record_row_text record_row.Skip = call_text (codes "f_skip") []
 

@@ -8,6 +8,8 @@ mod atom;
 mod laws;
 mod program;
 mod row;
+mod row_text;
+mod text;
 mod tree;
 
 pub use atom::{Argument, Atom, Letter, Operator, Reference, TextAtom};
