@@ -214,8 +214,7 @@ text_lines functions = codes "/* LoopC 1 */" ∷ functions_lines 0 functions
 
 -- each line is ended by a line feed
 abbrev pub with_line_feeds : List (List ℕ) → List ℕ
-with_line_feeds [] = []
-with_line_feeds (line ∷ lines) = line ++ (10 ∷ with_line_feeds lines)
+with_line_feeds lines = flat_map (λ line. line ++ 10 ∷ []) lines
 
 abbrev pub text_of_program : List Function → List ℕ
 text_of_program functions = with_line_feeds (text_lines functions)
