@@ -2,6 +2,6 @@
 //! has exactly one.
 #![tactic(auto)]
 
-mod print;
+mod printer;
 
-pub use print::print;
+pub use printer::print;

@@ -3,11 +3,10 @@
 ghost use Rattle.std.specs.Prelude.{Some};
 ghost use Rattle.loop_tree.specs.Text.{argument_text, listed_by, int_value_text, text_value_text, block_row_text, control_row_text, record_row_text, row_text, spell};
 
-use std::fmt;
-
 use crate::atom::Argument;
 use crate::row::{BlockRow, ControlRow, IntValue, RecordRow, Row, TextValue};
 use crate::tree::CodeLine;
+use std::fmt;
 
 /// The arguments of a call.
 #[derive(Clone, Copy)]

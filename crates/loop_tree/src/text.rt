@@ -3,9 +3,8 @@
 ghost use Rattle.std.specs.Prelude.{◌≡◌, Some};
 ghost use Rattle.loop_tree.specs.Text.{atom_text, text_atom_text, reference_text, argument_text, operator_text, letter_text, is_plain, byte_text, bytes_text};
 
-use std::fmt;
-
 use crate::atom::{Argument, Atom, Letter, Operator, Reference, TextAtom};
+use std::fmt;
 
 impl fmt::Display for Letter {
     ghost output = { λ l. Some (letter_text l) };

@@ -2,11 +2,10 @@ ghost use Rattle.std.specs.Prelude.{◌≡◌, [], ◌∷◌, ◌++◌, IfOk, On
 ghost use Rattle.loop_tree.specs.Lines.{flat, flats};
 ghost use Rattle.loop_tree.specs.Text.{function_head, function_lines, functions_lines, listed, parameters_text, spell, text_of_program, with_line_feeds};
 
-use std::alloc::{AllocError, Global};
-use std::fmt::Write;
-
 use a95_base::Memory;
 use loop_tree::{CodeLine, Function, Letter, LoopProgram, Stmt};
+use std::alloc::{AllocError, Global};
+use std::fmt::Write;
 
 /// The text of a program.
 pub fn print(alloc: Global, program: &LoopProgram) -> Result<Vec<u8>, Memory>
@@ -51,7 +50,8 @@ fn put_parameters(out: &mut String, parameters: &[Letter]) -> Result<(), AllocEr
     let Some((first, others)) = parameters.split_first() else {
         return Ok(());
     };
-    write!(out, "{first}0")?;
+    let number = 0_usize;
+    write!(out, "{first}{number}")?;
     put_others(out, others)
 }
 
@@ -59,10 +59,9 @@ fn put_parameters(out: &mut String, parameters: &[Letter]) -> Result<(), AllocEr
 fn put_others(out: &mut String, parameters: &[Letter]) -> Result<(), AllocError>
     ensures { OnOk result (string_bytes out.new ≡ string_bytes out.old ++ flat_map (λ y. codes ", " ++ y) (parameters_text 1 parameters.now)) }
 {
-    let mut number = 1;
-    for letter in parameters {
+    for (place, letter) in parameters.iter().enumerate() {
+        let number = place + 1;
         write!(out, ", {letter}{number}")?;
-        number += 1;
     }
     Ok(())
 }
