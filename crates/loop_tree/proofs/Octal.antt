@@ -1,5 +1,5 @@
 -- The three octal digits of a byte as they are printed.
-use Rattle.std.proofs.Common.{◌≡◌, ℕ, ◌+◌, ◌<◌, ◌/◌, ◌%◌, Bool, true, false, List, [], ◌∷◌, ◌++◌, decimal, arith, refl, sym, ◌∙◌, ap, ap₂}
+use Rattle.std.proofs.Common.{◌≡◌, ℕ, ◌<◌, ◌/◌, ◌%◌, Bool, false, ◌∷◌, ◌++◌, decimal, arith, refl, sym, ◌∙◌, ap}
 use Rattle.std.proofs.lemmas.Fmt.{decimal_digit}
 use Rattle.loop_tree.specs.Text.{is_plain, octal, byte_text}
 

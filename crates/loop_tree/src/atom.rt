@@ -1,4 +1,7 @@
+ghost use Rattle.std.specs.Prelude.{◌≡◌, IfOk};
+
 use a95_base::Bytes;
+use std::alloc::{AllocError, Global};
 
 /// The letter of a variable tells its type: `i`, `s`, `b` and `c`. Loop variables have the letter `k`, and no
 /// parameter has it.
@@ -29,6 +32,18 @@ pub enum TextAtom {
     Literal(Bytes),
 }
 
+impl TextAtom {
+    /// A copy of its own memory.
+    pub fn copy(&self, alloc: Global) -> Result<TextAtom, AllocError>
+        ensures { IfOk result (λ t. t ≡ self.now) }
+    {
+        match self {
+            TextAtom::Variable(n) => Ok(TextAtom::Variable(*n)),
+            TextAtom::Literal(bytes) => Ok(TextAtom::Literal(bytes.copy(alloc)?)),
+        }
+    }
+}
+
 /// A reference to a block of integers, `bN`, or of texts, `cN`.
 #[derive(Clone, Copy, Debug, PartialEq, Eq)]
 pub enum Reference {
@@ -42,6 +57,19 @@ pub enum Argument {
     Int(Atom),
     Text(TextAtom),
     Block(Reference),
+}
+
+impl Argument {
+    /// A copy of its own memory.
+    pub fn copy(&self, alloc: Global) -> Result<Argument, AllocError>
+        ensures { IfOk result (λ a. a ≡ self.now) }
+    {
+        match self {
+            Argument::Int(a) => Ok(Argument::Int(*a)),
+            Argument::Text(t) => Ok(Argument::Text(t.copy(alloc)?)),
+            Argument::Block(r) => Ok(Argument::Block(*r)),
+        }
+    }
 }
 
 /// The operators between two integers. Comparisons give 0 or 1.

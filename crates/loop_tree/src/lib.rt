@@ -5,6 +5,8 @@
 #![tactic(auto)]
 
 mod atom;
+mod copies;
+mod flatten;
 mod laws;
 mod program;
 mod row;
