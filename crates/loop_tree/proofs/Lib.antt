@@ -2,3 +2,5 @@ pub mod Balanced
 pub mod Octal
 pub mod Outcomes
 pub mod Runs
+pub mod Lessens
+pub mod Exists

@@ -1,6 +1,6 @@
 //! Laws of runs, for the layers above: each is the contract of a function that does nothing.
 
-ghost use Rattle.loop_tree.specs.RunLaws.{OneOutcome, EndStays, OutputGrows, TurnsAdd, WaysJoin, WaysMeet, EndIsLast, TurnIsCounted, StatementsPass};
+ghost use Rattle.loop_tree.specs.RunLaws.{OneOutcome, EndStays, OutputGrows, TurnsAdd, SomeOutcome, WaysJoin, WaysMeet, EndIsLast, TurnIsCounted, StatementsPass};
 
 /// A program has at most one outcome within a number of turns.
 pub fn one_outcome()
@@ -33,4 +33,9 @@ pub fn ways()
 /// The lines of whole statements leave the braces around them alone.
 pub fn statements_pass()
     ensures { StatementsPass }
+{}
+
+/// A program has an outcome within any number of turns.
+pub fn some_outcome()
+    ensures { SomeOutcome }
 {}

@@ -15,7 +15,9 @@ mod text;
 mod tree;
 
 pub use atom::{Argument, Atom, Letter, Operator, Reference, TextAtom};
-pub use laws::{end_stays, one_outcome, output_grows, statements_pass, turns_add, ways};
+pub use laws::{
+    end_stays, one_outcome, output_grows, some_outcome, statements_pass, turns_add, ways,
+};
 pub use program::LoopProgram;
 pub use row::{BlockRow, ControlRow, IntValue, RecordRow, Row, TextValue};
 pub use tree::{CodeLine, Function, Stmt};
