@@ -1,0 +1,6 @@
+pub mod Balanced
+pub mod Octal
+pub mod Outcomes
+pub mod Runs
+pub mod Lessens
+pub mod Exists

@@ -1,0 +1,39 @@
+use crate::atom::{Atom, Letter};
+use crate::row::Row;
+use sqlite_items::Items;
+
+/// A statement, with the statements inside it.
+#[derive(Debug, Drop)]
+pub enum Stmt {
+    Row(Row),
+    /// `if (A) {` .. `}`
+    If(Atom, Items<Stmt>),
+    /// `if (A) {` .. `} else {` .. `}`
+    IfElse(Atom, Items<Stmt>, Items<Stmt>),
+    /// `for (kN = 0; kN < A; kN = kN + 1) {` .. `}`
+    ForUp(u32, Atom, Items<Stmt>),
+    /// `for (kN = A - 1; kN >= 0; kN = kN - 1) {` .. `}`
+    ForDown(u32, Atom, Items<Stmt>),
+    /// `while (1) {` .. `}`
+    Forever(Items<Stmt>),
+}
+
+/// A function: the letters of its parameters, which are numbered from 0, and its statements.
+#[derive(Debug, Drop)]
+pub struct Function {
+    pub parameters: Items<Letter>,
+    pub body: Items<Stmt>,
+}
+
+/// One line of a function's text below its head.
+#[derive(Debug, Drop)]
+pub enum CodeLine {
+    Row(Row),
+    If(Atom),
+    Else,
+    ForUp(u32, Atom),
+    ForDown(u32, Atom),
+    Forever,
+    /// The brace that closes the innermost one, at last the function's own.
+    Close,
+}
