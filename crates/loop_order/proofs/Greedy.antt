@@ -49,7 +49,7 @@ pub found_left : (rank : ℕ) (taken : List Bool) (p : ℕ → Bool) (loop : ℕ
 found_left rank taken p loop found =
     let known = find_some p (loops_left rank taken) loop (sym found) in
     let here = each_has (λ l. ((1 ≤ l) × (l ≤ rank)) × (not (is_taken taken l) ≡ true)) (loops_left rank taken) loop
-        (EachOf-filter (λ l. (1 ≤ l) × (l ≤ rank)) (λ l. not (is_taken taken l)) (down_to_one rank) (each_from_one rank rank (omega arith))) known.1 in
+    (EachOf-filter (λ l. (1 ≤ l) × (l ≤ rank)) (λ l. not (is_taken taken l)) (down_to_one rank) (each_from_one rank rank (omega arith))) known.1 in
     record { least = here.0.0; most = here.0.1; free = not-true (is_taken taken loop) here.1 }
 
 -- one more level
@@ -86,9 +86,9 @@ one_more_level rank level loop taken downs loops distances down whole below loop
     ∙ ap (λ b. let level_is : Level = record { number = loop; down = b } in option_map (λ inner. outer ++ (level_is ∷ inner)) inside) (sym down_is)
     ∙ regroup outer here inside
     ∙ ap (λ ls. option_map (λ inner. ls ++ inner) inside)
-      (sym (ap (λ ns. levels ns (take (level + 1) (set downs level down))) (take_more_set loops level loop (omega arith))
-      ∙ ap (levels (take level loops ++ loop ∷ [])) (take_more_set downs level down (omega arith))
-      ∙ levels_push (take level loops) (take level downs) loop down (omega (arith, length-take level loops, length-take level downs))))
+    (sym (ap (λ ns. levels ns (take (level + 1) (set downs level down))) (take_more_set loops level loop (omega arith))
+    ∙ ap (levels (take level loops ++ loop ∷ [])) (take_more_set downs level down (omega arith))
+    ∙ levels_push (take level loops) (take level downs) loop down (omega (arith, length-take level loops, length-take level downs))))
 
 -- where nothing suits, there is no choice
 pub gives_up : (rank level : ℕ) (taken : List Bool) (outer : List Level) (distances : List (List Entry)) (whole : Option (List Level)) → level < rank → whole ≡ chosen_so_far outer (choice (rank - level) (loops_left rank taken) (open_distances taken distances)) → None ≡ find (λ l. suits l (open_distances taken distances)) (loops_left rank taken) → None ≡ whole

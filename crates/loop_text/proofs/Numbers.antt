@@ -26,8 +26,8 @@ number_more : (n : ℕ) → n < 2 ^ 64 → (rest : List ℕ) → number_onto 0 (
 number_more n small = decimal_by_steps (λ n ds. n < 2 ^ 64 → (rest : List ℕ) → number_onto 0 (ds ++ rest) ≡ number_onto n rest)
     (λ n h low rest. next_digit 0 n n rest h (omega arith) low)
     (λ n ds h more low rest.
-        ap (number_onto 0) (append_assoc ds ((48 + n % 10) ∷ []) rest)
-        ∙ (more (omega arith) ((48 + n % 10) ∷ rest) ∙ next_digit (n / 10) (n % 10) n rest (omega arith) (omega arith) low))
+    ap (number_onto 0) (append_assoc ds ((48 + n % 10) ∷ []) rest)
+    ∙ (more (omega arith) ((48 + n % 10) ∷ rest) ∙ next_digit (n / 10) (n % 10) n rest (omega arith) (omega arith) low))
     n small small
 
 number_stops : (n : ℕ) (rest : List ℕ) → is_digit (byte_at rest 0) ≡ false → number_onto n rest ≡ record { value = n; rest = rest }

@@ -76,7 +76,7 @@ has_answer xs n false none =
 pub one_more_named : (loops : List ℕ) (k : ℕ) → ((j : ℕ) → 1 ≤ j → j ≤ k → Has loops j) → Has loops (k + 1) → (j : ℕ) → 1 ≤ j → j ≤ k + 1 → Has loops j
 one_more_named loops k before here j least most =
     elim (cases_lt k j) [
-      inl above ↦ let P : ℕ → Type 0 = λ n. Has loops n in subst P (omega arith) here
+      | inl above ↦ let P : ℕ → Type 0 = λ n. Has loops n in subst P (omega arith) here
       | inr below ↦ before j least below
     ]
 

@@ -41,16 +41,16 @@ two_turned : (numbers extents place : List ℕ) (a b : ℕ) → Permuted (two_lo
 unfolding two_loops
 two_turned numbers extents place a b =
     elim (cases_eq a b) [
-      inl same ↦ permuted_equal (two_loops numbers extents place a b) (two_loops numbers extents place b a) (ap (λ x. two_loops numbers extents place x b) same ∙ ap (λ x. two_loops numbers extents place b x) (sym same))
+      | inl same ↦ permuted_equal (two_loops numbers extents place a b) (two_loops numbers extents place b a) (ap (λ x. two_loops numbers extents place x b) same ∙ ap (λ x. two_loops numbers extents place b x) (sym same))
       | inr apart ↦
-        join (loops_turned (λ i j. tour_up numbers extents (set (set place a i) b j)) (count_to (get_or extents a 0)) (count_to (get_or extents b 0)))
-        (permuted_equal _ (two_loops numbers extents place b a)
-        (flat_map_agree (λ j. flat_map (λ i. tour_up numbers extents (set (set place a i) b j)) (count_to (get_or extents a 0))) (λ j. flat_map (λ i. tour_up numbers extents (set (set place b j) a i)) (count_to (get_or extents a 0))) (count_to (get_or extents b 0))
-        (EachOf-all (λ j. flat_map (λ i. tour_up numbers extents (set (set place a i) b j)) (count_to (get_or extents a 0)) ≡ flat_map (λ i. tour_up numbers extents (set (set place b j) a i)) (count_to (get_or extents a 0)))
-        (λ j.
-            flat_map_agree (λ i. tour_up numbers extents (set (set place a i) b j)) (λ i. tour_up numbers extents (set (set place b j) a i)) (count_to (get_or extents a 0))
-            (EachOf-all (λ i. tour_up numbers extents (set (set place a i) b j) ≡ tour_up numbers extents (set (set place b j) a i)) (λ i. ap (tour_up numbers extents) (set_comm place a b i j apart)) (count_to (get_or extents a 0))))
-        (count_to (get_or extents b 0)))))
+          join (loops_turned (λ i j. tour_up numbers extents (set (set place a i) b j)) (count_to (get_or extents a 0)) (count_to (get_or extents b 0)))
+          (permuted_equal _ (two_loops numbers extents place b a)
+          (flat_map_agree (λ j. flat_map (λ i. tour_up numbers extents (set (set place a i) b j)) (count_to (get_or extents a 0))) (λ j. flat_map (λ i. tour_up numbers extents (set (set place b j) a i)) (count_to (get_or extents a 0))) (count_to (get_or extents b 0))
+          (EachOf-all (λ j. flat_map (λ i. tour_up numbers extents (set (set place a i) b j)) (count_to (get_or extents a 0)) ≡ flat_map (λ i. tour_up numbers extents (set (set place b j) a i)) (count_to (get_or extents a 0)))
+          (λ j.
+          flat_map_agree (λ i. tour_up numbers extents (set (set place a i) b j)) (λ i. tour_up numbers extents (set (set place b j) a i)) (count_to (get_or extents a 0))
+          (EachOf-all (λ i. tour_up numbers extents (set (set place a i) b j) ≡ tour_up numbers extents (set (set place b j) a i)) (λ i. ap (tour_up numbers extents) (set_comm place a b i j apart)) (count_to (get_or extents a 0))))
+          (count_to (get_or extents b 0)))))
     ]
 
 loops_reordered : {numbers others : List ℕ} (extents place : List ℕ) → Permuted numbers others → Permuted (tour_up numbers extents place) (tour_up others extents place)
@@ -74,9 +74,9 @@ places_once : (extents : List ℕ) → AllLater (λ place later. place ≢ later
 places_once extents =
     AllLater-map (λ place later. place ≢ later) (place_at extents) (count_to (size_of extents))
     (AllLater-weaker_on (λ n. n < size_of extents) (λ j k. j < k) (λ j k. place_at extents j ≢ place_at extents k)
-    (λ j k j_in k_in below same. 
-        let numbers : j ≡ k = sym (number_of-place_at extents j j_in) ∙ ap (number_of extents) same ∙ number_of-place_at extents k k_in in
-        omega arith)
+    (λ j k j_in k_in below same.
+    let numbers : j ≡ k = sym (number_of-place_at extents j j_in) ∙ ap (number_of extents) same ∙ number_of-place_at extents k k_in in
+    omega arith)
     (count_to (size_of extents)) (each_below (size_of extents)) (count_to_rises (size_of extents)))
 
 pub order_whole : (rank : ℕ) (extents : List ℕ) (order : List Level) → length extents ≡ rank → IsOrder rank order → IsWhole extents (tour order extents)
@@ -85,10 +85,10 @@ order_whole rank extents order long holds =
     record {
       within = order_within rank extents order long holds;
       every =
-        λ place inside.
-            Permuted-Has place (permuted_back reordered)
-            (let P : List ℕ → Type 0 = λ p. Has (places_of extents) p in
-            subst P (place_at-number_of extents place inside) (Has-map (place_at extents) (count_to (size_of extents)) (number_of extents place) (Has-count_to (size_of extents) (number_of extents place) (number_below extents place inside))));
+          λ place inside.
+          Permuted-Has place (permuted_back reordered)
+          (let P : List ℕ → Type 0 = λ p. Has (places_of extents) p in
+          subst P (place_at-number_of extents place inside) (Has-map (place_at extents) (count_to (size_of extents)) (number_of extents place) (Has-count_to (size_of extents) (number_of extents place) (number_below extents place inside))));
       once = Permuted-AllLater (λ place later. place ≢ later) (λ a b apart same. apart (sym same)) (permuted_back reordered) (places_once extents);
       size = Permuted-length reordered ∙ length-map (count_to (size_of extents)) (place_at extents) ∙ length-count_to (size_of extents);
       reordered = reordered;

@@ -70,10 +70,10 @@ at_level order extents place k left inner below is small =
       turn_below = (let P : ℕ → Type 0 = λ x. left / x < extent in subst P back step.turn_below);
       left_below = (let P : ℕ → Type 0 = λ x. left % x < x in subst P back step.left_below);
       same =
-        λ s s_is.
-            ap (λ x. visited (drop (k + 1) order) extents (set place ((level_at order k).number - 1) x) (left % (inner / extent))) s_is
-            ∙ ap (λ x. visited (drop (k + 1) order) extents (set place ((level_at order k).number - 1) (subscript_at (level_at order k).down extent (left / x))) (left % x)) (sym back)
-            ∙ ap (λ ls. visited ls extents place left) (sym (drop_more order k (record { number = 0; down = false }) below));
+          λ s s_is.
+          ap (λ x. visited (drop (k + 1) order) extents (set place ((level_at order k).number - 1) x) (left % (inner / extent))) s_is
+          ∙ ap (λ x. visited (drop (k + 1) order) extents (set place ((level_at order k).number - 1) (subscript_at (level_at order k).down extent (left / x))) (left % x)) (sym back)
+          ∙ ap (λ ls. visited ls extents place left) (sym (drop_more order k (record { number = 0; down = false }) below));
     }
 
 pub code_step : (order : List Level) (extents place : List ℕ) (k left inner n extent : ℕ) → k < length order → inner ≡ turns_in (drop k order) extents → left < inner → n ≡ (level_at order k).number → extent ≡ get_or extents (n - 1) 0 → CodeStep order extents place k left inner n extent

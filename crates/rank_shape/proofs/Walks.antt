@@ -69,7 +69,7 @@ tour_turn (level ∷ inner) extents place turn d below =
     let row : i < extent = div_below turn m extent some below in
     ap (λ k. get_or (flat_map (λ x. tour_from inner extents (set place (level.number - 1) x)) (turns_of level.down extent)) k d) (sym (div-add-mod' turn m))
     ∙ get_or-pieces (λ x. tour_from inner extents (set place (level.number - 1) x)) m (λ x. tour_length inner extents (set place (level.number - 1) x)) (turns_of level.down extent) i j 0 d
-      (omega (arith, length-turns_of level.down extent)) (mod_below turn m some)
+    (omega (arith, length-turns_of level.down extent)) (mod_below turn m some)
     ∙ ap (λ x. get_or (tour_from inner extents (set place (level.number - 1) x)) j d) (get_or-turns_of level.down extent i 0 row)
     ∙ tour_turn inner extents (set place (level.number - 1) (subscript_at level.down extent i)) j d (mod_below turn m some)
 
@@ -82,10 +82,10 @@ tour_keeps (level ∷ inner) extents place k apart =
     EachOf-flat_map (λ p. get_or p k 0 ≡ get_or place k 0) (λ i. tour_from inner extents (set place (level.number - 1) i)) (turns_of level.down (get_or extents (level.number - 1) 0))
     (EachOf-all (λ i. EachOf (λ p. get_or p k 0 ≡ get_or place k 0) (tour_from inner extents (set place (level.number - 1) i)))
     (λ i.
-        EachOf-weaker (λ p. get_or p k 0 ≡ get_or (set place (level.number - 1) i) k 0) (λ p. get_or p k 0 ≡ get_or place k 0)
-        (λ p is. is ∙ get_or-set_other place (level.number - 1) k i 0 (λ same. apart.0 (sym same)))
-        (tour_from inner extents (set place (level.number - 1) i))
-        (tour_keeps inner extents (set place (level.number - 1) i) k apart.1))
+    EachOf-weaker (λ p. get_or p k 0 ≡ get_or (set place (level.number - 1) i) k 0) (λ p. get_or p k 0 ≡ get_or place k 0)
+    (λ p is. is ∙ get_or-set_other place (level.number - 1) k i 0 (λ same. apart.0 (sym same)))
+    (tour_from inner extents (set place (level.number - 1) i))
+    (tour_keeps inner extents (set place (level.number - 1) i) k apart.1))
     (turns_of level.down (get_or extents (level.number - 1) 0)))
 
 pub tour_long : (order : List Level) (extents place : List ℕ) → EachOf (λ p. length p ≡ length place) (tour_from order extents place)
@@ -94,10 +94,10 @@ tour_long (level ∷ inner) extents place =
     EachOf-flat_map (λ p. length p ≡ length place) (λ i. tour_from inner extents (set place (level.number - 1) i)) (turns_of level.down (get_or extents (level.number - 1) 0))
     (EachOf-all (λ i. EachOf (λ p. length p ≡ length place) (tour_from inner extents (set place (level.number - 1) i)))
     (λ i.
-        EachOf-weaker (λ p. length p ≡ length (set place (level.number - 1) i)) (λ p. length p ≡ length place)
-        (λ p is. is ∙ length-set place (level.number - 1) i)
-        (tour_from inner extents (set place (level.number - 1) i))
-        (tour_long inner extents (set place (level.number - 1) i)))
+    EachOf-weaker (λ p. length p ≡ length (set place (level.number - 1) i)) (λ p. length p ≡ length place)
+    (λ p is. is ∙ length-set place (level.number - 1) i)
+    (tour_from inner extents (set place (level.number - 1) i))
+    (tour_long inner extents (set place (level.number - 1) i)))
     (turns_of level.down (get_or extents (level.number - 1) 0)))
 
 pub place_from_each : (extents place : List ℕ) → length place ≡ length extents → ((k : ℕ) → k < length extents → get_or place k 0 < get_or extents k 0) → IsPlace extents place
@@ -118,7 +118,7 @@ one_more_covered level inner extents place k i long below inside (inl (inl here)
     let dim : level.number - 1 ≡ k = omega arith in inr (set_here level extents place k i (omega arith) inside dim)
 one_more_covered level inner extents place k i long below inside (inr kept) =
     elim (cases_eq (level.number - 1) k) [
-      inl dim ↦ inr (set_here level extents place k i (omega arith) inside dim)
+      | inl dim ↦ inr (set_here level extents place k i (omega arith) inside dim)
       | inr apart ↦ inr (let P : ℕ → Type 0 = λ x. x < get_or extents k 0 in subst P (sym (get_or-set_other place (level.number - 1) k i 0 (λ same. apart (sym same)))) kept)
     ]
 
