@@ -1,7 +1,7 @@
 -- Ring laws of the integers that std lacks. `omega (arith, ints)` does sums; these are for products.
-use Rattle.std.proofs.Common.{◌≡◌, ◌≢◌, ℕ, ℤ, zero, suc, pos, negsuc, ◌+◌, ◌*◌, ◌<◌, ◌+ℤ◌, ◌-ℤ◌, ◌*ℤ◌, unsigned_abs, refl, sym, ap, ◌∙◌, subst, arith}
+use Rattle.std.proofs.Common.{◌≡◌, ◌≢◌, ℕ, ℤ, zero, suc, pos, negsuc, ◌*◌, ◌<◌, ◌+ℤ◌, ◌-ℤ◌, ◌*ℤ◌, unsigned_abs, refl, sym, ap, ◌∙◌, subst, arith}
 use Rattle.std.proofs.lemmas.Int.{ints, unsigned_abs-mul}
-use lib.IntN.{neg_ℤ, suc_ℤ, pred_ℤ, suc_ℤ-*ℤ, pred_ℤ-*ℤ, zero-*ℤ, *ℤ_comm}
+use lib.IntN.{neg_ℤ, suc_ℤ, pred_ℤ, suc_ℤ-*ℤ, pred_ℤ-*ℤ, zero-*ℤ}
 
 suc_is : (a : ℤ) → suc_ℤ a ≡ a +ℤ pos 1
 suc_is (pos n) = omega (arith, ints)
@@ -40,9 +40,9 @@ mul_add a b c =
     by_steps (λ x. (x +ℤ b) *ℤ c ≡ x *ℤ c +ℤ b *ℤ c)
     (ap (λ x. x *ℤ c) (zero_add b) ∙ sym (ap (λ x. x +ℤ b *ℤ c) (zero-*ℤ c) ∙ zero_add (b *ℤ c)))
     (λ m ih.
-        ap (λ x. x *ℤ c) (turned m (pos 1) b) ∙ one_more (m +ℤ b) c ∙ ap (λ x. x +ℤ c) ih ∙ turned (m *ℤ c) (b *ℤ c) c ∙ ap (λ x. x +ℤ b *ℤ c) (sym (one_more m c)))
+    ap (λ x. x *ℤ c) (turned m (pos 1) b) ∙ one_more (m +ℤ b) c ∙ ap (λ x. x +ℤ c) ih ∙ turned (m *ℤ c) (b *ℤ c) c ∙ ap (λ x. x +ℤ b *ℤ c) (sym (one_more m c)))
     (λ m ih.
-        ap (λ x. x *ℤ c) (sym (turned_less m b (pos 1))) ∙ one_less (m +ℤ b) c ∙ ap (λ x. x -ℤ c) ih ∙ turned_less (m *ℤ c) (b *ℤ c) c ∙ ap (λ x. x +ℤ b *ℤ c) (sym (one_less m c)))
+    ap (λ x. x *ℤ c) (sym (turned_less m b (pos 1))) ∙ one_less (m +ℤ b) c ∙ ap (λ x. x -ℤ c) ih ∙ turned_less (m *ℤ c) (b *ℤ c) c ∙ ap (λ x. x +ℤ b *ℤ c) (sym (one_less m c)))
     a
 
 opposite : (x y : ℤ) → pos 0 ≡ x +ℤ y → x ≡ neg_ℤ y

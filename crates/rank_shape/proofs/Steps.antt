@@ -1,14 +1,13 @@
 -- One level of the code that finds the place of a turn.
-use Rattle.std.proofs.Common.{◌≡◌, ℕ, ℤ, pos, zero, suc, ◌+◌, ◌*◌, ◌/◌, ◌%◌, ◌-◌, ◌^◌, ◌<◌, ◌≤◌, ◌≤ℤ◌, Bool, true, false, List, [], ◌∷◌, length, get_or, set, drop, map, replicate, unsigned_abs, refl, sym, ap, ◌∙◌, subst, arith}
+use Rattle.std.proofs.Common.{◌≡◌, ℕ, ℤ, pos, zero, suc, ◌+◌, ◌*◌, ◌/◌, ◌%◌, ◌-◌, ◌<◌, ◌≤◌, ◌≤ℤ◌, false, List, [], ◌∷◌, length, get_or, set, drop, map, replicate, unsigned_abs, refl, sym, ap, ◌∙◌, subst, arith}
 use Rattle.std.proofs.Math.Nat.{mul_comm}
 use Rattle.std.proofs.lemmas.Nat.{mod_below, div_below, div-mul-add, mul-le}
 use Rattle.std.proofs.lemmas.Int.{ints}
 use Rattle.std.proofs.lemmas.List.{drop_more, drop_all, map-set, length-map}
-use Rattle.a95_base.specs.Lists.{EachOf, Permuted, down_to_one}
 use Rattle.a95_base.proofs.Lists.{EachOf-set}
 use Rattle.a95_base.proofs.Permuted.{Permuted-length, length-down_to_one}
 use Rattle.rank_shape.specs.Shape.{AreNatural, naturals, size_of}
-use Rattle.rank_shape.specs.Order.{Level, IsOrder, level_at, loops_of}
+use Rattle.rank_shape.specs.Order.{Level, IsOrder, level_at}
 use Rattle.rank_shape.specs.Turn.{turns_in, subscript_at, visited}
 use Rattle.rank_shape.proofs.Walks.{positive, tour_length, tour_turn}
 use Rattle.rank_shape.proofs.Reorders.{order_whole}
@@ -70,10 +69,10 @@ at_level order extents place k left inner below is small =
       turn_below = (let P : ℕ → Type 0 = λ x. left / x < extent in subst P back step.turn_below);
       left_below = (let P : ℕ → Type 0 = λ x. left % x < x in subst P back step.left_below);
       same =
-        λ s s_is.
-            ap (λ x. visited (drop (k + 1) order) extents (set place ((level_at order k).number - 1) x) (left % (inner / extent))) s_is
-            ∙ ap (λ x. visited (drop (k + 1) order) extents (set place ((level_at order k).number - 1) (subscript_at (level_at order k).down extent (left / x))) (left % x)) (sym back)
-            ∙ ap (λ ls. visited ls extents place left) (sym (drop_more order k (record { number = 0; down = false }) below));
+          λ s s_is.
+          ap (λ x. visited (drop (k + 1) order) extents (set place ((level_at order k).number - 1) x) (left % (inner / extent))) s_is
+          ∙ ap (λ x. visited (drop (k + 1) order) extents (set place ((level_at order k).number - 1) (subscript_at (level_at order k).down extent (left / x))) (left % x)) (sym back)
+          ∙ ap (λ ls. visited ls extents place left) (sym (drop_more order k (record { number = 0; down = false }) below));
     }
 
 pub code_step : (order : List Level) (extents place : List ℕ) (k left inner n extent : ℕ) → k < length order → inner ≡ turns_in (drop k order) extents → left < inner → n ≡ (level_at order k).number → extent ≡ get_or extents (n - 1) 0 → CodeStep order extents place k left inner n extent

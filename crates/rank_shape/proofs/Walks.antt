@@ -1,18 +1,16 @@
 -- What the places of nested loops are: their number, their ranges, and those of array element order.
-use Rattle.std.proofs.Common.{◌≡◌, ◌≢◌, ◌⊎◌, ℕ, zero, suc, ◌+◌, ◌*◌, ◌/◌, ◌%◌, ◌-◌, ◌<◌, ◌≤◌, Bool, true, false, List, [], ◌∷◌, ◌++◌, length, get_or, set, take, drop, map, reverse, refl, sym, ap, ◌∙◌, subst, inl, inr, arith, append_assoc, length-append}
+use Rattle.std.proofs.Common.{◌≡◌, ◌≢◌, ◌⊎◌, ℕ, zero, suc, ◌+◌, ◌*◌, ◌/◌, ◌%◌, ◌-◌, ◌<◌, Bool, true, false, List, [], ◌∷◌, ◌++◌, length, get_or, set, refl, sym, ap, ◌∙◌, subst, inl, inr, arith, length-append}
 use Rattle.std.specs.List.{flat_map}
-use Rattle.std.proofs.Math.Nat.{mul_assoc, mul_comm, add_comm}
 use Rattle.std.proofs.lemmas.Nat.{mod_below, div_below, div-add-mod'}
-use Rattle.std.proofs.lemmas.Bool.{cases_eq, cases_lt}
-use Rattle.std.proofs.lemmas.List.{length-reverse, get_or-reverse, get_or_append_left, get_or-append-add, get_or_default, get_or-set_same, get_or-set_other, length-set, set_past, get_or_past, take_all, map-append, append-nil}
-use Rattle.a95_base.specs.Lists.{EachOf, AllLater, Has, Permuted, count_to, down_to_one}
-use Rattle.a95_base.proofs.Lists.{length-count_to, get_or-count_to, each_below, EachOf-weaker, EachOf-both, EachOf-flat_map, EachOf-all, EachOf-map, map_agree, flat_map_agree, Has-map, Has-count_to, count_to_rises, AllLater-map, AllLater-weaker_on}
-use Rattle.a95_base.proofs.Permuted.{Permuted-reverse, permuted_same, permuted_back, Permuted-EachOf, Permuted-Has, Permuted-AllLater, Permuted-length}
-use Rattle.rank_shape.specs.Shape.{IsPlace, size_of, number_of, place_at, places_of}
-use Rattle.rank_shape.specs.Order.{Level, loops_of, element_order_of}
-use Rattle.rank_shape.specs.Walk.{turns_of, tour_from, tour, IsWhole}
+use Rattle.std.proofs.lemmas.Bool.{cases_eq}
+use Rattle.std.proofs.lemmas.List.{length-reverse, get_or-reverse, get_or_append_left, get_or-append-add, get_or-set_same, get_or-set_other, length-set}
+use Rattle.a95_base.specs.Lists.{EachOf, Has, count_to}
+use Rattle.a95_base.proofs.Lists.{length-count_to, get_or-count_to, each_below, EachOf-weaker, EachOf-flat_map, EachOf-all}
+use Rattle.a95_base.proofs.Permuted.{Permuted-reverse, permuted_back, Permuted-EachOf}
+use Rattle.rank_shape.specs.Shape.{IsPlace}
+use Rattle.rank_shape.specs.Order.{Level, loops_of}
+use Rattle.rank_shape.specs.Walk.{turns_of, tour_from}
 use Rattle.rank_shape.specs.Turn.{turns_in, subscript_at, visited}
-use Rattle.rank_shape.proofs.Numbers.{number_below, place_within, number_of-place_at, place_at-number_of}
 
 pub length-turns_of : (down : Bool) (extent : ℕ) → length (turns_of down extent) ≡ extent
 length-turns_of false extent = length-count_to extent
@@ -69,7 +67,7 @@ tour_turn (level ∷ inner) extents place turn d below =
     let row : i < extent = div_below turn m extent some below in
     ap (λ k. get_or (flat_map (λ x. tour_from inner extents (set place (level.number - 1) x)) (turns_of level.down extent)) k d) (sym (div-add-mod' turn m))
     ∙ get_or-pieces (λ x. tour_from inner extents (set place (level.number - 1) x)) m (λ x. tour_length inner extents (set place (level.number - 1) x)) (turns_of level.down extent) i j 0 d
-      (omega (arith, length-turns_of level.down extent)) (mod_below turn m some)
+    (omega (arith, length-turns_of level.down extent)) (mod_below turn m some)
     ∙ ap (λ x. get_or (tour_from inner extents (set place (level.number - 1) x)) j d) (get_or-turns_of level.down extent i 0 row)
     ∙ tour_turn inner extents (set place (level.number - 1) (subscript_at level.down extent i)) j d (mod_below turn m some)
 
@@ -82,10 +80,10 @@ tour_keeps (level ∷ inner) extents place k apart =
     EachOf-flat_map (λ p. get_or p k 0 ≡ get_or place k 0) (λ i. tour_from inner extents (set place (level.number - 1) i)) (turns_of level.down (get_or extents (level.number - 1) 0))
     (EachOf-all (λ i. EachOf (λ p. get_or p k 0 ≡ get_or place k 0) (tour_from inner extents (set place (level.number - 1) i)))
     (λ i.
-        EachOf-weaker (λ p. get_or p k 0 ≡ get_or (set place (level.number - 1) i) k 0) (λ p. get_or p k 0 ≡ get_or place k 0)
-        (λ p is. is ∙ get_or-set_other place (level.number - 1) k i 0 (λ same. apart.0 (sym same)))
-        (tour_from inner extents (set place (level.number - 1) i))
-        (tour_keeps inner extents (set place (level.number - 1) i) k apart.1))
+    EachOf-weaker (λ p. get_or p k 0 ≡ get_or (set place (level.number - 1) i) k 0) (λ p. get_or p k 0 ≡ get_or place k 0)
+    (λ p is. is ∙ get_or-set_other place (level.number - 1) k i 0 (λ same. apart.0 (sym same)))
+    (tour_from inner extents (set place (level.number - 1) i))
+    (tour_keeps inner extents (set place (level.number - 1) i) k apart.1))
     (turns_of level.down (get_or extents (level.number - 1) 0)))
 
 pub tour_long : (order : List Level) (extents place : List ℕ) → EachOf (λ p. length p ≡ length place) (tour_from order extents place)
@@ -94,10 +92,10 @@ tour_long (level ∷ inner) extents place =
     EachOf-flat_map (λ p. length p ≡ length place) (λ i. tour_from inner extents (set place (level.number - 1) i)) (turns_of level.down (get_or extents (level.number - 1) 0))
     (EachOf-all (λ i. EachOf (λ p. length p ≡ length place) (tour_from inner extents (set place (level.number - 1) i)))
     (λ i.
-        EachOf-weaker (λ p. length p ≡ length (set place (level.number - 1) i)) (λ p. length p ≡ length place)
-        (λ p is. is ∙ length-set place (level.number - 1) i)
-        (tour_from inner extents (set place (level.number - 1) i))
-        (tour_long inner extents (set place (level.number - 1) i)))
+    EachOf-weaker (λ p. length p ≡ length (set place (level.number - 1) i)) (λ p. length p ≡ length place)
+    (λ p is. is ∙ length-set place (level.number - 1) i)
+    (tour_from inner extents (set place (level.number - 1) i))
+    (tour_long inner extents (set place (level.number - 1) i)))
     (turns_of level.down (get_or extents (level.number - 1) 0)))
 
 pub place_from_each : (extents place : List ℕ) → length place ≡ length extents → ((k : ℕ) → k < length extents → get_or place k 0 < get_or extents k 0) → IsPlace extents place
@@ -118,7 +116,7 @@ one_more_covered level inner extents place k i long below inside (inl (inl here)
     let dim : level.number - 1 ≡ k = omega arith in inr (set_here level extents place k i (omega arith) inside dim)
 one_more_covered level inner extents place k i long below inside (inr kept) =
     elim (cases_eq (level.number - 1) k) [
-      inl dim ↦ inr (set_here level extents place k i (omega arith) inside dim)
+      | inl dim ↦ inr (set_here level extents place k i (omega arith) inside dim)
       | inr apart ↦ inr (let P : ℕ → Type 0 = λ x. x < get_or extents k 0 in subst P (sym (get_or-set_other place (level.number - 1) k i 0 (λ same. apart (sym same)))) kept)
     ]
 

@@ -28,11 +28,9 @@ impl<const R: usize> Model for Order<R> {
 
     ghost inverse = { λ order. record { loops = loops_of order; down = downs_of order } };
 
-    ghost inverse_ok = {
-        λ order holds.
-            ap (λ loops. record { loops = loops; down = downs_of (levels order.loops order.down) }) (loops_of-levels order.loops order.down (holds.loops_long ∙ sym holds.downs_long))
-            ∙ ap (λ down. record { loops = order.loops; down = down }) (downs_of-levels order.loops order.down (holds.loops_long ∙ sym holds.downs_long))
-    };
+    ghost inverse_ok = { λ order holds.
+        ap (λ loops. record { loops = loops; down = downs_of (levels order.loops order.down) }) (loops_of-levels order.loops order.down (holds.loops_long ∙ sym holds.downs_long))
+        ∙ ap (λ down. record { loops = order.loops; down = down }) (downs_of-levels order.loops order.down (holds.loops_long ∙ sym holds.downs_long)) };
 }
 
 impl<const R: usize> Order<R> {

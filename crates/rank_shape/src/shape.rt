@@ -127,7 +127,9 @@ fn capped_size<const R: usize>(extents: &[i64; R]) -> u64
 {
     let mut size = 1u64;
     for k in 0..R {
-        size = size.saturating_mul(natural_at(extents, k)).min(MOST_PLACES + 1);
+        size = size
+            .saturating_mul(natural_at(extents, k))
+            .min(MOST_PLACES + 1);
     }
     size
 }

@@ -64,7 +64,12 @@ impl<const R: usize> Iterator for Tour<R> {
     }
 }
 
-fn place_of_turn<const R: usize>(shape: &Shape<R>, order: &Order<R>, size: u64, turn: u64) -> Place<R>
+fn place_of_turn<const R: usize>(
+    shape: &Shape<R>,
+    order: &Order<R>,
+    size: u64,
+    turn: u64,
+) -> Place<R>
     requires turns { size ≡ turns_in order.now shape.now }
     requires small { size ≤ 2 ^ 24 }
     requires below { turn < size }

@@ -1,4 +1,4 @@
-use Rattle.std.proofs.Common.{◌≡◌, ◌<◌, ◌≤◌, ◌^◌, ◌-◌, ◌+◌, ◌/◌, ◌%◌, ℤ, pos, to_z, w64, set, length, map, take, drop, sym, ap, ◌∙◌, subst, arith}
+use Rattle.std.proofs.Common.{◌≡◌, ◌-◌, ◌+◌, ◌/◌, ◌%◌, pos, to_z, w64, set, map, drop, sym, ap, ◌∙◌, subst, arith}
 use Rattle.std.proofs.lemmas.Int.{ints, to_z_pos}
 use Rattle.std.proofs.lemmas.List.{length-set, length-replicate, drop_all}
 use Rattle.rank_shape.specs.Shape.{naturals, AreNatural}
@@ -43,7 +43,7 @@ pub loop-level-preserved : goal.loop-level-preserved
 loop-level-preserved g c =
     let known = step g c.before.before in
     let place_is : set c.loop-level.at (c.loop_at.result - 1) (to_z w64 c.subscript.result) ≡ set c.loop-level.at (c.loop_at.result - 1) (pos c.subscript.result) =
-        ap (λ z. set c.loop-level.at (c.loop_at.result - 1) z) (to_z_pos w64 c.subscript.result (omega (arith, c.subscript.ensures.below, known.smaller, c.loop-level.invariant.small))) in
+    ap (λ z. set c.loop-level.at (c.loop_at.result - 1) z) (to_z_pos w64 c.subscript.result (omega (arith, c.subscript.ensures.below, known.smaller, c.loop-level.invariant.small))) in
     record {
       long = length-set c.loop-level.at (c.loop_at.result - 1) _ ∙ c.loop-level.invariant.long;
       natural = (let P : _ → Type 0 = λ xs. AreNatural xs in subst P (sym place_is) (natural_set c.loop-level.at (c.loop_at.result - 1) c.subscript.result c.loop-level.invariant.natural));
@@ -51,10 +51,10 @@ loop-level-preserved g c =
       small = omega (arith, known.inner_smaller, c.loop-level.invariant.small);
       below = known.left_below;
       same =
-        ap (λ place. visited (drop (c.loop-level.level + 1) c.args.order.now) c.args.shape.now place (c.loop-level.left % (c.loop-level.inner / c.natural_extent-extent.result)))
-        (ap naturals place_is ∙ naturals_set c.loop-level.at (c.loop_at.result - 1) c.subscript.result)
-        ∙ known.same c.subscript.result (c.subscript.ensures.subscript ∙ ap (λ down. subscript_at down c.natural_extent-extent.result (c.loop-level.left / (c.loop-level.inner / c.natural_extent-extent.result))) c.is_down.ensures)
-        ∙ c.loop-level.invariant.same;
+          ap (λ place. visited (drop (c.loop-level.level + 1) c.args.order.now) c.args.shape.now place (c.loop-level.left % (c.loop-level.inner / c.natural_extent-extent.result)))
+          (ap naturals place_is ∙ naturals_set c.loop-level.at (c.loop_at.result - 1) c.subscript.result)
+          ∙ known.same c.subscript.result (c.subscript.ensures.subscript ∙ ap (λ down. subscript_at down c.natural_extent-extent.result (c.loop-level.left / (c.loop-level.inner / c.natural_extent-extent.result))) c.is_down.ensures)
+          ∙ c.loop-level.invariant.same;
     }
 
 pub returns : goal.returns
