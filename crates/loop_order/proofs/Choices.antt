@@ -1,14 +1,14 @@
 -- The greedy choice gives a legal order, and misses none.
-use Rattle.std.proofs.Common.{◌≡◌, ◌⊎◌, ℕ, zero, suc, ◌+◌, ◌-◌, ◌<◌, ◌≤◌, Bool, true, false, not, cond, eqb, ◌&&◌, ◌||◌, List, [], ◌∷◌, length, map, Option, Some, None, refl, sym, ap, ◌∙◌, subst, inl, inr, arith}
-use Rattle.std.specs.Prelude.{IsTrue, filter, find, option_map, option_and_then}
-use Rattle.std.specs.List.{list_any, list_all}
-use Rattle.std.proofs.lemmas.Bool.{and_parts, and_cases, and_from, not-true, not-false, not_from_false, false≢true, both_ways, and_left, and_right, cases_Bool, eqb-true, eqb-false, eq-eqb, ne_eqb, cases_eq}
-use Rattle.a95_base.specs.Lists.{EachOf, Has, Permuted, down_to_one}
+use Rattle.std.proofs.Common.{◌≡◌, ◌⊎◌, ℕ, zero, suc, Bool, true, false, not, cond, eqb, ◌&&◌, ◌||◌, List, [], ◌∷◌, length, Option, Some, None, refl, sym, ap, ◌∙◌, subst, inl, inr, arith}
+use Rattle.std.specs.Prelude.{IsTrue, find, option_map, option_and_then}
+use Rattle.std.specs.List.{list_any}
+use Rattle.std.proofs.lemmas.Bool.{and_parts, and_cases, and_from, not-true, not_from_false, false≢true, both_ways, and_left, and_right, cases_Bool, eq-eqb, ne_eqb, cases_eq}
+use Rattle.a95_base.specs.Lists.{EachOf, Has, Permuted}
 use Rattle.a95_base.specs.Lists.Permuted.{none, skip, swap, join}
 use Rattle.a95_base.proofs.Lists.{EachOf-weaker, EachOf-both, EachOf-all}
-use Rattle.a95_base.proofs.Permuted.{permuted_same, permuted_equal, permuted_back, Permuted-Has, Permuted-length}
+use Rattle.a95_base.proofs.Permuted.{permuted_equal, permuted_back, Permuted-Has, Permuted-length}
 use Rattle.rank_shape.specs.declared.distance.Entry.{Entry}
-use Rattle.rank_shape.specs.Order.{Level, IsOrder, loops_of}
+use Rattle.rank_shape.specs.Order.{Level, loops_of}
 use Rattle.loop_order.specs.declared.sign.Sign.{Sign}
 use Rattle.loop_order.specs.declared.sign.Sign.TheVariants.{Unknown, Still, Up, Down}
 use Rattle.loop_order.specs.Legal.{sign_at, meets, settles, IsLegal}
@@ -51,19 +51,19 @@ level_settles Down down inner known up dn still = not_from_false down (dn refl)
 first_suits : (level : Level) (inner : List Level) (distances : List (List Entry)) → IsLegal (level ∷ inner) distances → suits level.number distances ≡ true
 first_suits level inner distances legal =
     let known : some_entry is_unknown level.number distances ≡ false =
-        some_fails (λ d. is_unknown (sign_at d level.number)) distances
-        (EachOf-weaker (λ d. IsTrue (settles (level ∷ inner) d)) (λ d. is_unknown (sign_at d level.number) ≡ false) (λ d t. known_sign (sign_at d level.number) level.down (settles inner d) t) distances legal) in
+    some_fails (λ d. is_unknown (sign_at d level.number)) distances
+    (EachOf-weaker (λ d. IsTrue (settles (level ∷ inner) d)) (λ d. is_unknown (sign_at d level.number) ≡ false) (λ d t. known_sign (sign_at d level.number) level.down (settles inner d) t) distances legal) in
     let one_way : (some_entry is_up level.number distances && some_entry is_down level.number distances) ≡ false =
-        elim (cases_Bool level.down) [
-          inl is ↦
-            and_right (some_entry is_up level.number distances) (some_entry is_down level.number distances)
-            (some_fails (λ d. is_down (sign_at d level.number)) distances
-            (EachOf-weaker (λ d. IsTrue (settles (level ∷ inner) d)) (λ d. is_down (sign_at d level.number) ≡ false) (λ d t. not_down (sign_at d level.number) level.down (settles inner d) is t) distances legal))
-          | inr is ↦
-            and_left (some_entry is_up level.number distances) (some_entry is_down level.number distances)
-            (some_fails (λ d. is_up (sign_at d level.number)) distances
-            (EachOf-weaker (λ d. IsTrue (settles (level ∷ inner) d)) (λ d. is_up (sign_at d level.number) ≡ false) (λ d t. not_up (sign_at d level.number) level.down (settles inner d) is t) distances legal))
-        ] in
+    elim (cases_Bool level.down) [
+      | inl is ↦
+          and_right (some_entry is_up level.number distances) (some_entry is_down level.number distances)
+          (some_fails (λ d. is_down (sign_at d level.number)) distances
+          (EachOf-weaker (λ d. IsTrue (settles (level ∷ inner) d)) (λ d. is_down (sign_at d level.number) ≡ false) (λ d t. not_down (sign_at d level.number) level.down (settles inner d) is t) distances legal))
+      | inr is ↦
+          and_left (some_entry is_up level.number distances) (some_entry is_down level.number distances)
+          (some_fails (λ d. is_up (sign_at d level.number)) distances
+          (EachOf-weaker (λ d. IsTrue (settles (level ∷ inner) d)) (λ d. is_up (sign_at d level.number) ≡ false) (λ d t. not_up (sign_at d level.number) level.down (settles inner d) is t) distances legal))
+    ] in
     and_from (not (some_entry is_unknown level.number distances)) (not (some_entry is_up level.number distances && some_entry is_down level.number distances))
     (not_from_false (some_entry is_unknown level.number distances) known) (not_from_false (some_entry is_up level.number distances && some_entry is_down level.number distances) one_way)
 
@@ -98,14 +98,14 @@ put_back : (xs : List ℕ) (y : ℕ) → Has xs y → Permuted xs (y ∷ without
 put_back [] y h = absurd h
 put_back (x ∷ xs) y h =
     elim (cases_eq x y) [
-      inl same ↦ permuted_equal (x ∷ xs) (y ∷ without y (x ∷ xs)) (ap (λ z. z ∷ xs) same ∙ ap (λ zs. y ∷ zs) (sym (here x y xs same)))
+      | inl same ↦ permuted_equal (x ∷ xs) (y ∷ without y (x ∷ xs)) (ap (λ z. z ∷ xs) same ∙ ap (λ zs. y ∷ zs) (sym (here x y xs same)))
       | inr apart ↦
-        elim h [
-          inl same ↦ absurd (apart same)
-          | inr later ↦
-            join (skip x (put_back xs y later))
-            (join (swap x y (without y xs)) (permuted_equal (y ∷ (x ∷ without y xs)) (y ∷ without y (x ∷ xs)) (ap (λ zs. y ∷ zs) (sym (there x y xs apart)))))
-        ]
+          elim h [
+            | inl same ↦ absurd (apart same)
+            | inr later ↦
+                join (skip x (put_back xs y later))
+                (join (swap x y (without y xs)) (permuted_equal (y ∷ (x ∷ without y xs)) (y ∷ without y (x ∷ xs)) (ap (λ zs. y ∷ zs) (sym (there x y xs apart)))))
+          ]
     ]
 
 two : (a b : ℕ) (xs : List ℕ) (y : ℕ) → (a ≡ b → ⊥) → (a ≡ y) ⊎ (a ≡ y → ⊥) → (b ≡ y) ⊎ (b ≡ y → ⊥) → Permuted (without y (a ∷ b ∷ xs)) (without y (b ∷ a ∷ xs))
@@ -125,7 +125,7 @@ rest y (skip x {xs = xs} {ys = ys} p) =
     elim (eqb x y) as (λ b. Permuted (cond b xs (x ∷ without y xs)) (cond b ys (x ∷ without y ys))) [ true ↦ p | false ↦ skip x (rest y p) ]
 rest y (swap a b xs) =
     elim (cases_eq a b) [
-      inl same ↦ permuted_equal (without y (a ∷ b ∷ xs)) (without y (b ∷ a ∷ xs)) (ap (λ z. without y (z ∷ b ∷ xs)) same ∙ ap (λ z. without y (b ∷ z ∷ xs)) (sym same))
+      | inl same ↦ permuted_equal (without y (a ∷ b ∷ xs)) (without y (b ∷ a ∷ xs)) (ap (λ z. without y (z ∷ b ∷ xs)) same ∙ ap (λ z. without y (b ∷ z ∷ xs)) (sym same))
       | inr apart ↦ two a b xs y apart (cases_eq a y) (cases_eq b y)
     ]
 rest y (join p q) = join (rest y p) (rest y q)
@@ -140,7 +140,7 @@ unfolding take_out
 take_out_loops loop [] = refl
 take_out_loops loop (level ∷ inner) =
     elim (eqb level.number loop) as (λ b. loops_of (cond b inner (level ∷ take_out loop inner)) ≡ cond b (loops_of inner) (level.number ∷ without loop (loops_of inner))) [
-      true ↦ refl
+      | true ↦ refl
       | false ↦ ap (λ ns. level.number ∷ ns) (take_out_loops loop inner)
     ]
 
@@ -156,13 +156,13 @@ unfolding take_out
 settles_without loop [] d still t = t
 settles_without loop (level ∷ inner) d still t =
     elim (cases_eq level.number loop) [
-      inl same ↦
-        let P : Bool → Type 0 = λ b. IsTrue (settles (cond b inner (level ∷ take_out loop inner)) d) in
-        subst P (sym (eq-eqb level.number loop same))
-        (let Q : Sign → Type 0 = λ s. IsTrue (meets s level.down (settles inner d)) in subst Q (ap (sign_at d) same ∙ still) t)
+      | inl same ↦
+          let P : Bool → Type 0 = λ b. IsTrue (settles (cond b inner (level ∷ take_out loop inner)) d) in
+          subst P (sym (eq-eqb level.number loop same))
+          (let Q : Sign → Type 0 = λ s. IsTrue (meets s level.down (settles inner d)) in subst Q (ap (sign_at d) same ∙ still) t)
       | inr apart ↦
-        let P : Bool → Type 0 = λ b. IsTrue (settles (cond b inner (level ∷ take_out loop inner)) d) in
-        subst P (sym (ne_eqb level.number loop apart)) (inside (sign_at d level.number) level.down (settles inner d) (settles (take_out loop inner) d) (settles_without loop inner d still) t)
+          let P : Bool → Type 0 = λ b. IsTrue (settles (cond b inner (level ∷ take_out loop inner)) d) in
+          subst P (sym (ne_eqb level.number loop apart)) (inside (sign_at d level.number) level.down (settles inner d) (settles (take_out loop inner) d) (settles_without loop inner d still) t)
     ]
 
 legal_without : (loop : ℕ) (order : List Level) (distances : List (List Entry)) → IsLegal order distances → IsLegal (take_out loop order) (unsettled loop distances)
@@ -197,12 +197,12 @@ suited_legal loop inner distances suited legal =
     let known : EachOf (λ d. is_unknown (sign_at d loop) ≡ false) distances = none_passes (λ d. is_unknown (sign_at d loop)) distances (not-true (some_entry is_unknown loop distances) parts.0) in
     let up : EachOf (λ d. is_up (sign_at d loop) ≡ true → some_entry is_up loop distances ≡ true) distances = each_counts (λ d. is_up (sign_at d loop)) distances in
     let down : EachOf (λ d. is_down (sign_at d loop) ≡ true → some_entry is_up loop distances ≡ false) distances =
-        elim (and_cases (some_entry is_up loop distances) (some_entry is_down loop distances) (not-true (some_entry is_up loop distances && some_entry is_down loop distances) parts.1)) [
-          inl no_up ↦ EachOf-all (λ d. is_down (sign_at d loop) ≡ true → some_entry is_up loop distances ≡ false) (λ d t. no_up) distances
-          | inr no_down ↦
-            EachOf-weaker (λ d. is_down (sign_at d loop) ≡ false) (λ d. is_down (sign_at d loop) ≡ true → some_entry is_up loop distances ≡ false)
-            (λ d f t. absurd (both_ways (is_down (sign_at d loop)) f t)) distances (none_passes (λ d. is_down (sign_at d loop)) distances no_down)
-        ] in
+    elim (and_cases (some_entry is_up loop distances) (some_entry is_down loop distances) (not-true (some_entry is_up loop distances && some_entry is_down loop distances) parts.1)) [
+      | inl no_up ↦ EachOf-all (λ d. is_down (sign_at d loop) ≡ true → some_entry is_up loop distances ≡ false) (λ d t. no_up) distances
+      | inr no_down ↦
+          EachOf-weaker (λ d. is_down (sign_at d loop) ≡ false) (λ d. is_down (sign_at d loop) ≡ true → some_entry is_up loop distances ≡ false)
+          (λ d f t. absurd (both_ways (is_down (sign_at d loop)) f t)) distances (none_passes (λ d. is_down (sign_at d loop)) distances no_down)
+    ] in
     let still : EachOf (λ d. is_still (sign_at d loop) ≡ true → IsTrue (settles inner d)) distances = EachOf-from_filter (λ d. IsTrue (settles inner d)) (λ d. is_still (sign_at d loop)) distances legal in
     EachOf-weaker (λ d. (is_unknown (sign_at d loop) ≡ false × (is_up (sign_at d loop) ≡ true → some_entry is_up loop distances ≡ true)) × ((is_down (sign_at d loop) ≡ true → some_entry is_up loop distances ≡ false) × (is_still (sign_at d loop) ≡ true → IsTrue (settles inner d))))
     (λ d. IsTrue (settles (record { number = loop; down = some_entry is_up loop distances } ∷ inner) d))

@@ -1,19 +1,19 @@
 -- The steps of the code that makes the greedy choice.
-use Rattle.std.proofs.Common.{◌≡◌, ◌⊎◌, ℕ, zero, suc, ◌+◌, ◌-◌, ◌<◌, ◌≤◌, Bool, true, false, not, cond, List, [], ◌∷◌, ◌++◌, length, get_or, set, take, replicate, Option, Some, None, refl, sym, ap, ◌∙◌, subst, inl, inr, arith, append_assoc}
-use Rattle.std.specs.Prelude.{IsTrue, IsSome, IfSome, IfNone, ◌↔◌, find, filter, option_map, option_and_then}
-use Rattle.std.proofs.lemmas.Bool.{cases_eq, not-true, false≢true}
+use Rattle.std.proofs.Common.{◌≡◌, ℕ, suc, ◌+◌, ◌-◌, ◌<◌, ◌≤◌, Bool, true, false, not, List, [], ◌∷◌, ◌++◌, length, set, take, replicate, Option, Some, None, refl, sym, ap, ◌∙◌, subst, arith, append_assoc}
+use Rattle.std.specs.Prelude.{IsSome, IfSome, IfNone, find, option_map, option_and_then}
+use Rattle.std.proofs.lemmas.Bool.{not-true, false≢true}
 use Rattle.std.proofs.lemmas.List.{take_all, take_more_set, append-nil, length-take}
-use Rattle.a95_base.specs.Lists.{EachOf, Has, Permuted, down_to_one}
-use Rattle.a95_base.proofs.Lists.{each_has, EachOf-weaker}
+use Rattle.a95_base.specs.Lists.{Has, Permuted, down_to_one}
+use Rattle.a95_base.proofs.Lists.{each_has}
 use Rattle.a95_base.proofs.Permuted.{length-down_to_one, each_from_one, Has-down_to_one, permuted_back, Permuted-Has}
 use Rattle.rank_shape.specs.declared.distance.Entry.{Entry}
-use Rattle.rank_shape.specs.Order.{Level, IsOrder, levels, loops_of}
+use Rattle.rank_shape.specs.Order.{Level, IsOrder, levels}
 use Rattle.rank_shape.specs.Fields.{loops_of-levels}
 use Rattle.loop_order.specs.Legal.{IsLegal}
-use Rattle.loop_order.specs.Choice.{is_up, some_entry, suits, unsettled, without, choice, chosen, IsAllowed}
+use Rattle.loop_order.specs.Choice.{is_up, some_entry, suits, unsettled, without, choice, chosen}
 use Rattle.loop_order.specs.Left.{is_taken, loops_left, open_distances}
 use Rattle.loop_order.proofs.Signs.{EachOf-filter}
-use Rattle.loop_order.proofs.Choices.{choice_legal, choice_none, find_some, some_is}
+use Rattle.loop_order.proofs.Choices.{choice_legal, choice_none, find_some}
 use Rattle.loop_order.proofs.Lefts.{all_open_at_first, all_left_at_first, one_more_taken, one_more_settled}
 
 map_same : {A : Type 0} (o : Option A) → option_map (λ (x : A). x) o ≡ o
@@ -49,7 +49,7 @@ pub found_left : (rank : ℕ) (taken : List Bool) (p : ℕ → Bool) (loop : ℕ
 found_left rank taken p loop found =
     let known = find_some p (loops_left rank taken) loop (sym found) in
     let here = each_has (λ l. ((1 ≤ l) × (l ≤ rank)) × (not (is_taken taken l) ≡ true)) (loops_left rank taken) loop
-        (EachOf-filter (λ l. (1 ≤ l) × (l ≤ rank)) (λ l. not (is_taken taken l)) (down_to_one rank) (each_from_one rank rank (omega arith))) known.1 in
+    (EachOf-filter (λ l. (1 ≤ l) × (l ≤ rank)) (λ l. not (is_taken taken l)) (down_to_one rank) (each_from_one rank rank (omega arith))) known.1 in
     record { least = here.0.0; most = here.0.1; free = not-true (is_taken taken loop) here.1 }
 
 -- one more level
@@ -86,9 +86,9 @@ one_more_level rank level loop taken downs loops distances down whole below loop
     ∙ ap (λ b. let level_is : Level = record { number = loop; down = b } in option_map (λ inner. outer ++ (level_is ∷ inner)) inside) (sym down_is)
     ∙ regroup outer here inside
     ∙ ap (λ ls. option_map (λ inner. ls ++ inner) inside)
-      (sym (ap (λ ns. levels ns (take (level + 1) (set downs level down))) (take_more_set loops level loop (omega arith))
-      ∙ ap (levels (take level loops ++ loop ∷ [])) (take_more_set downs level down (omega arith))
-      ∙ levels_push (take level loops) (take level downs) loop down (omega (arith, length-take level loops, length-take level downs))))
+    (sym (ap (λ ns. levels ns (take (level + 1) (set downs level down))) (take_more_set loops level loop (omega arith))
+    ∙ ap (levels (take level loops ++ loop ∷ [])) (take_more_set downs level down (omega arith))
+    ∙ levels_push (take level loops) (take level downs) loop down (omega (arith, length-take level loops, length-take level downs))))
 
 -- where nothing suits, there is no choice
 pub gives_up : (rank level : ℕ) (taken : List Bool) (outer : List Level) (distances : List (List Entry)) (whole : Option (List Level)) → level < rank → whole ≡ chosen_so_far outer (choice (rank - level) (loops_left rank taken) (open_distances taken distances)) → None ≡ find (λ l. suits l (open_distances taken distances)) (loops_left rank taken) → None ≡ whole

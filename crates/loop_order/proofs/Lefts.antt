@@ -1,19 +1,18 @@
 -- What is left of the choice where one more loop is taken, and one more distance looked at.
-use Rattle.std.proofs.Common.{◌≡◌, ◌⊎◌, ℕ, zero, suc, ◌+◌, ◌-◌, ◌<◌, ◌≤◌, Bool, true, false, not, cond, eqb, ◌&&◌, ◌||◌, List, [], ◌∷◌, length, get_or, set, drop, map, replicate, refl, sym, ap, ◌∙◌, subst, inl, inr, arith}
-use Rattle.std.specs.Prelude.{IsTrue, ◌↔◌, filter, find}
-use Rattle.std.specs.List.{list_any, list_all}
-use Rattle.std.proofs.lemmas.Bool.{cases_eq, cases_lt, eq-eqb, ne_eqb, false≢true, both_ways, and_parts, and_from}
-use Rattle.std.proofs.lemmas.List.{drop_more, get_or-set_same, get_or-set_other, get_or-replicate, get_or_past, drop-map, get_or-map}
-use Rattle.a95_base.specs.Lists.{EachOf, Has, down_to_one}
+use Rattle.std.proofs.Common.{◌≡◌, ℕ, zero, suc, ◌+◌, ◌-◌, ◌<◌, ◌≤◌, Bool, true, false, not, cond, ◌&&◌, ◌||◌, List, [], ◌∷◌, length, get_or, set, drop, replicate, refl, sym, ap, ◌∙◌, inl, inr, arith}
+use Rattle.std.specs.Prelude.{IsTrue, ◌↔◌, filter}
+use Rattle.std.specs.List.{list_all}
+use Rattle.std.proofs.lemmas.Bool.{cases_eq, eq-eqb, ne_eqb, and_parts, and_from}
+use Rattle.std.proofs.lemmas.List.{drop_more, get_or-set_same, get_or-set_other}
+use Rattle.a95_base.specs.Lists.{EachOf, down_to_one}
 use Rattle.a95_base.proofs.Lists.{EachOf-weaker}
 use Rattle.a95_base.proofs.Permuted.{each_from_one}
 use Rattle.rank_shape.specs.declared.distance.Entry.{Entry}
 use Rattle.rank_shape.specs.declared.distance.Entry.TheVariants as entry
 use Rattle.loop_order.specs.declared.sign.Sign.{Sign}
-use Rattle.loop_order.specs.declared.sign.Sign.TheVariants.{Unknown, Still, Up, Down}
 use Rattle.loop_order.specs.Legal.{sign_of, sign_at, settles, IsLegal}
 use Rattle.rank_shape.specs.Order.{Level}
-use Rattle.loop_order.specs.Choice.{is_still, is_unknown, is_up, is_down, some_entry, unsettled, without, suits}
+use Rattle.loop_order.specs.Choice.{is_still, some_entry, unsettled, without}
 use Rattle.loop_order.specs.Left.{is_taken, loops_left, is_open, open_distances}
 
 -- ---- nothing taken yet
@@ -50,21 +49,21 @@ filter_without : (p q : ℕ → Bool) (l n : ℕ) → p l ≡ true → q l ≡ f
 filter_without p q l zero at_p at_q others least most = absurd (omega arith)
 filter_without p q l (suc n) at_p at_q others least most =
     elim (cases_eq (suc n) l) [
-      inl same ↦
-        let p_here : p (suc n) ≡ true = ap p same ∙ at_p in
-        let q_here : q (suc n) ≡ false = ap q same ∙ at_q in
-        ap (λ b. cond b (suc n ∷ filter q (down_to_one n)) (filter q (down_to_one n))) q_here
-        ∙ filter_agree_on q p (down_to_one n) (EachOf-weaker (λ x. (1 ≤ x) × (x ≤ n)) (λ x. q x ≡ p x) (λ x known. others x known.0 (λ is. omega (arith, known.1))) (down_to_one n) (each_from_one n n (omega arith)))
-        ∙ sym (ap (λ b. without l (cond b (suc n ∷ filter p (down_to_one n)) (filter p (down_to_one n)))) p_here
+      | inl same ↦
+          let p_here : p (suc n) ≡ true = ap p same ∙ at_p in
+          let q_here : q (suc n) ≡ false = ap q same ∙ at_q in
+          ap (λ b. cond b (suc n ∷ filter q (down_to_one n)) (filter q (down_to_one n))) q_here
+          ∙ filter_agree_on q p (down_to_one n) (EachOf-weaker (λ x. (1 ≤ x) × (x ≤ n)) (λ x. q x ≡ p x) (λ x known. others x known.0 (λ is. omega (arith, known.1))) (down_to_one n) (each_from_one n n (omega arith)))
+          ∙ sym (ap (λ b. without l (cond b (suc n ∷ filter p (down_to_one n)) (filter p (down_to_one n)))) p_here
           ∙ ap (λ b. cond b (filter p (down_to_one n)) (suc n ∷ without l (filter p (down_to_one n)))) (eq-eqb (suc n) l same))
       | inr apart ↦
-        let below : l ≤ n = omega arith in
-        ap (λ b. cond b (suc n ∷ filter q (down_to_one n)) (filter q (down_to_one n))) (others (suc n) (omega arith) apart)
-        ∙ ap (λ ys. cond (p (suc n)) (suc n ∷ ys) ys) (filter_without p q l n at_p at_q others least below)
-        ∙ sym (elim (p (suc n)) as (λ b. without l (cond b (suc n ∷ filter p (down_to_one n)) (filter p (down_to_one n))) ≡ cond b (suc n ∷ without l (filter p (down_to_one n))) (without l (filter p (down_to_one n)))) [
-          true ↦ ap (λ b. cond b (filter p (down_to_one n)) (suc n ∷ without l (filter p (down_to_one n)))) (ne_eqb (suc n) l apart)
-          | false ↦ refl
-        ])
+          let below : l ≤ n = omega arith in
+          ap (λ b. cond b (suc n ∷ filter q (down_to_one n)) (filter q (down_to_one n))) (others (suc n) (omega arith) apart)
+          ∙ ap (λ ys. cond (p (suc n)) (suc n ∷ ys) ys) (filter_without p q l n at_p at_q others least below)
+          ∙ sym (elim (p (suc n)) as (λ b. without l (cond b (suc n ∷ filter p (down_to_one n)) (filter p (down_to_one n))) ≡ cond b (suc n ∷ without l (filter p (down_to_one n))) (without l (filter p (down_to_one n)))) [
+            | true ↦ ap (λ b. cond b (filter p (down_to_one n)) (suc n ∷ without l (filter p (down_to_one n)))) (ne_eqb (suc n) l apart)
+            | false ↦ refl
+          ])
     ]
 
 pub one_more_taken : (rank : ℕ) (taken : List Bool) (l : ℕ) → 1 ≤ l → l ≤ rank → l ≤ length taken → is_taken taken l ≡ false → loops_left rank (set taken (l - 1) true) ≡ without l (loops_left rank taken)
@@ -115,7 +114,7 @@ filter_twice p q r both (x ∷ xs) =
     ap (λ b. cond b (x ∷ filter r xs) (filter r xs)) (both x)
     ∙ ap (λ ys. cond (p x && q x) (x ∷ ys) ys) (filter_twice p q r both xs)
     ∙ sym (elim (q x) as (λ b. filter p (cond b (x ∷ filter q xs) (filter q xs)) ≡ cond (p x && b) (x ∷ filter p (filter q xs)) (filter p (filter q xs))) [
-      true ↦ sym (ap (λ b. cond b (x ∷ filter p (filter q xs)) (filter p (filter q xs))) (and_true (p x)))
+      | true ↦ sym (ap (λ b. cond b (x ∷ filter p (filter q xs)) (filter p (filter q xs))) (and_true (p x)))
       | false ↦ sym (ap (λ b. cond b (x ∷ filter p (filter q xs)) (filter p (filter q xs))) (and_false (p x)))
     ])
 

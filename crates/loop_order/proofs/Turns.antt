@@ -1,20 +1,19 @@
 -- In a legal order the turn that reads comes no later than the turn that stores.
-use Rattle.std.proofs.Common.{◌≡◌, ◌≢◌, ◌⊎◌, ℕ, ℤ, zero, suc, pos, negsuc, ◌+◌, ◌-◌, ◌<◌, ◌≤◌, Bool, true, false, not, List, [], ◌∷◌, ◌++◌, length, get_or, set, map, reverse, refl, sym, ap, ◌∙◌, subst, inl, inr, arith}
+use Rattle.std.proofs.Common.{◌≡◌, ◌≢◌, ◌⊎◌, ℕ, zero, suc, ◌-◌, ◌<◌, ◌≤◌, Bool, true, false, List, [], ◌∷◌, length, get_or, set, map, reverse, refl, sym, ◌∙◌, subst, inl, inr, arith}
 use Rattle.std.specs.Prelude.{IsTrue}
-use Rattle.std.specs.List.{flat_map}
-use Rattle.std.proofs.lemmas.Bool.{cases_lt, false≢true, not-true}
+use Rattle.std.proofs.lemmas.Bool.{cases_lt, false≢true}
 use Rattle.std.proofs.lemmas.List.{reverse-append, get_or_past, get_or-set_same, length-set, length-map}
-use Rattle.a95_base.specs.Lists.{EachOf, AllLater, Has, Permuted, count_to, down_to_one}
-use Rattle.a95_base.proofs.Lists.{EachOf-append, EachOf-weaker, EachOf-all, EachOf-both, EachOf-from_map, each_below, AllLater-append, AllLater-weaker_on, AllLater-weaker, AllLater-both, AllLater-all, AllLater-flat_map, AllLater-from_map, count_to_rises}
+use Rattle.a95_base.specs.Lists.{EachOf, AllLater, count_to, down_to_one}
+use Rattle.a95_base.proofs.Lists.{EachOf-weaker, EachOf-both, AllLater-append, AllLater-weaker_on, AllLater-all, AllLater-flat_map, AllLater-from_map, count_to_rises}
 use Rattle.a95_base.proofs.Permuted.{each_from_one, permuted_back, Permuted-EachOf, Permuted-AllLater, Permuted-reverse}
 use Rattle.rank_shape.specs.declared.distance.Entry.{Entry}
 use Rattle.rank_shape.specs.declared.distance.Entry.TheVariants as entry
-use Rattle.rank_shape.specs.Order.{Level, IsOrder, loops_of}
+use Rattle.rank_shape.specs.Order.{Level, IsOrder}
 use Rattle.rank_shape.specs.Walk.{turns_of, tour_from, tour}
 use Rattle.rank_shape.proofs.Walks.{turns_below, tour_keeps, tour_long}
 use Rattle.loop_order.specs.declared.sign.Sign.{Sign}
 use Rattle.loop_order.specs.declared.sign.Sign.TheVariants.{Unknown, Still, Up, Down}
-use Rattle.loop_order.specs.Legal.{sign_of, sign_at, meets, settles, IsLegal}
+use Rattle.loop_order.specs.Legal.{sign_at, meets, settles, IsLegal}
 use Rattle.loop_order.specs.Apart.{Differs, IsApart}
 use Rattle.loop_order.proofs.Signs.{still_same, up_later, down_earlier}
 
@@ -91,7 +90,7 @@ at_turn level inner extents place i apart long below =
     let k : ℕ = level.number - 1 in
     let start : List ℕ = set place k i in
     let inside : k < length place =
-        elim (cases_lt k (length extents)) [ inl h ↦ omega arith | inr past ↦ (let gone = get_or_past extents k 0 past in absurd (omega arith)) ] in
+    elim (cases_lt k (length extents)) [ inl h ↦ omega arith | inr past ↦ (let gone = get_or_past extents k 0 past in absurd (omega arith)) ] in
     EachOf-weaker (λ p. (get_or p k 0 ≡ get_or start k 0) × (length p ≡ length start)) (AtTurn k i)
     (λ p known. record { is = known.0 ∙ get_or-set_same place k i 0 inside; inside = omega (arith, known.1, length-set place k i) })
     (tour_from inner extents start)
@@ -116,20 +115,20 @@ never_later_from (level ∷ inner) distance extents place settled apart long =
     AllLater-flat_map (λ stores reads. IsApart distance stores reads → ⊥) piece turns
     (EachOf-weaker (λ i. i < extent) (λ i. AllLater (λ stores reads. IsApart distance stores reads → ⊥) (piece i))
     (λ i below.
-        elim (one_turn level (settles inner distance) distance i settled) [
-          inl inside ↦ never_later_from inner distance extents (set place k i) inside apart.1 (length-set place k i ∙ long)
-          | inr impossible ↦
-            AllLater-weaker_on (AtTurn k i) (λ stores reads. Unit {0}) (λ stores reads. IsApart distance stores reads → ⊥)
-            (λ stores reads at_i at_j u h. impossible (differs_at distance k i i stores reads at_i at_j h)) (piece i) (at i below) (AllLater-all (λ stores reads. Unit {0}) (λ stores reads. tt) (piece i))
-        ])
+    elim (one_turn level (settles inner distance) distance i settled) [
+      | inl inside ↦ never_later_from inner distance extents (set place k i) inside apart.1 (length-set place k i ∙ long)
+      | inr impossible ↦
+          AllLater-weaker_on (AtTurn k i) (λ stores reads. Unit {0}) (λ stores reads. IsApart distance stores reads → ⊥)
+          (λ stores reads at_i at_j u h. impossible (differs_at distance k i i stores reads at_i at_j h)) (piece i) (at i below) (AllLater-all (λ stores reads. Unit {0}) (λ stores reads. tt) (piece i))
+    ])
     turns (turns_below level.down extent))
     (AllLater-weaker_on (λ i. i < extent) (Before level.down) (λ i j. EachOf (λ stores. EachOf (λ reads. IsApart distance stores reads → ⊥) (piece j)) (piece i))
     (λ i j i_below j_below before.
-        EachOf-weaker (AtTurn k i) (λ stores. EachOf (λ reads. IsApart distance stores reads → ⊥) (piece j))
-        (λ stores at_i.
-            EachOf-weaker (AtTurn k j) (λ reads. IsApart distance stores reads → ⊥)
-            (λ reads at_j h. never_later level (settles inner distance) distance i j settled before (differs_at distance k i j stores reads at_i at_j h)) (piece j) (at j j_below))
-        (piece i) (at i i_below))
+    EachOf-weaker (AtTurn k i) (λ stores. EachOf (λ reads. IsApart distance stores reads → ⊥) (piece j))
+    (λ stores at_i.
+    EachOf-weaker (AtTurn k j) (λ reads. IsApart distance stores reads → ⊥)
+    (λ reads at_j h. never_later level (settles inner distance) distance i j settled before (differs_at distance k i j stores reads at_i at_j h)) (piece j) (at j j_below))
+    (piece i) (at i i_below))
     turns (turns_below level.down extent) (turns_in_order level.down extent))
 
 pub never_later_in : (rank : ℕ) (order : List Level) (distance : List Entry) (extents : List ℕ) → IsOrder rank order → IsTrue (settles order distance) → AllLater (λ stores reads. IsApart distance stores reads → ⊥) (tour order extents)

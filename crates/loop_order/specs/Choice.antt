@@ -47,8 +47,8 @@ choice zero left distances = Some []
 choice (suc count) left distances =
     option_and_then
     (λ loop.
-        option_map (λ inner. record { number = loop; down = some_entry is_up loop distances } ∷ inner)
-        (choice count (without loop left) (unsettled loop distances)))
+    option_map (λ inner. record { number = loop; down = some_entry is_up loop distances } ∷ inner)
+    (choice count (without loop left) (unsettled loop distances)))
     (find (λ loop. suits loop distances) left)
 
 -- the order of a statement: the choice where it is free, and else array element order where that is legal

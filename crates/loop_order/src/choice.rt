@@ -23,7 +23,11 @@ pub fn choose<const R: usize>(dists: &[Dist<R>], free: bool) -> Option<Order<R>>
         return greedy(dists);
     }
     let order = Order::element_order();
-    if legal(&order, dists) { Some(order) } else { None }
+    if legal(&order, dists) {
+        Some(order)
+    } else {
+        None
+    }
 }
 
 fn greedy<const R: usize>(dists: &[Dist<R>]) -> Option<Order<R>>

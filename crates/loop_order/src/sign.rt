@@ -28,13 +28,7 @@ pub(crate) fn sign_of(entry: Entry) -> Sign
     match entry {
         Entry::Any => Sign::Unknown,
         Entry::Known(0) => Sign::Still,
-        Entry::Known(turns) => {
-            if turns > 0 {
-                Sign::Up
-            } else {
-                Sign::Down
-            }
-        }
+        Entry::Known(turns) => { if turns > 0 { Sign::Up } else { Sign::Down } }
     }
 }
 

@@ -1,9 +1,8 @@
-use Rattle.std.proofs.Common.{◌-◌, arith, false, sym, ap, ◌∙◌, replicate, pos}
+use Rattle.std.proofs.Common.{◌-◌, arith, false, ◌∙◌, replicate}
 use Rattle.std.proofs.lemmas.List.{length-replicate, length-set}
 use Rattle.loop_order.specs.Legal.{distances_of}
 use Rattle.loop_order.specs.Choice.{suits}
 use Rattle.loop_order.specs.Left.{open_distances}
-use Rattle.rank_shape.specs.Order.{levels}
 use Rattle.loop_order.proofs.Greedy.{found_left, start_level, one_more_level, gives_up, whole_choice, made_is}
 use Rattle.loop_order.proofs.choice.greedy.Goals as goal
 
@@ -34,8 +33,8 @@ loop-level-preserved g c = record {
   down_long = length-set c.loop-level.down c.loop-level.level _ ∙ c.loop-level.invariant.down_long;
   taken_long = length-set c.loop-level.taken (c.in-Some.next.number - 1) _ ∙ c.loop-level.invariant.taken_long;
   same =
-    one_more_level g.row.R c.loop-level.level c.in-Some.next.number c.loop-level.taken c.loop-level.down c.loop-level.loops (distances_of g.row.R c.args.dists.now) c.in-Some.next.down _
-    c.loop-level-test.true c.loop-level.invariant.loops_long c.loop-level.invariant.down_long c.loop-level.invariant.taken_long c.loop-level.invariant.same c.in-Some.ensures.first c.in-Some.ensures.direction;
+      one_more_level g.row.R c.loop-level.level c.in-Some.next.number c.loop-level.taken c.loop-level.down c.loop-level.loops (distances_of g.row.R c.args.dists.now) c.in-Some.next.down _
+      c.loop-level-test.true c.loop-level.invariant.loops_long c.loop-level.invariant.down_long c.loop-level.invariant.taken_long c.loop-level.invariant.same c.in-Some.ensures.first c.in-Some.ensures.direction;
 }
 
 pub returns : goal.returns

@@ -13,6 +13,6 @@ invariant-loop-level g l = record {
   down_long : length l.down ≡ g.row.R;
   taken_long : length l.taken ≡ g.row.R;
   same : choice g.row.R (down_to_one g.row.R) (distances_of g.row.R l.dists)
-    ≡ option_map (λ inner. levels (take l.level l.loops) (take l.level l.down) ++ inner)
+      ≡ option_map (λ inner. levels (take l.level l.loops) (take l.level l.down) ++ inner)
       (choice (g.row.R - l.level) (loops_left g.row.R l.taken) (open_distances l.taken (distances_of g.row.R l.dists)));
 }
