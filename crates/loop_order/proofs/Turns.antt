@@ -22,7 +22,7 @@ abbrev pub Before : Bool → ℕ → ℕ → Type 0
 Before false i j = i < j
 Before true i j = j < i
 
-AllLater-reverse : {A : Type 0} (R : A → A → Type 0) (xs : List A) → AllLater R xs → AllLater (λ x y. R y x) (reverse xs)
+pub AllLater-reverse : {A : Type 0} (R : A → A → Type 0) (xs : List A) → AllLater R xs → AllLater (λ x y. R y x) (reverse xs)
 AllLater-reverse R [] h = tt
 AllLater-reverse R (x ∷ xs) h =
     let P : List _ → Type 0 = λ ys. AllLater (λ a b. R b a) ys in

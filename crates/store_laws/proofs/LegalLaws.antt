@@ -32,10 +32,10 @@ module _ {S V F : Type 0} (statement : Statement (List ℕ) S V F) (Sound : S �
       let whole = order_whole rank extents order long holds in
       AllLater-weaker_on (IsPlace extents) (λ stores reads. (stores ≢ reads) × EachOf (λ d. IsApart d stores reads → ⊥) distances) (Ignores statement Sound May)
       (λ stores reads stores_in reads_in apart.
-          elim (known.told stores reads stores_in reads_in apart.0) [
-            inl ignores ↦ ignores
-            | inr at ↦ absurd (each_has (λ d. IsApart d stores reads → ⊥) distances at.0 apart.1 at.1.0 at.1.1)
-          ])
+      elim (known.told stores reads stores_in reads_in apart.0) [
+        | inl ignores ↦ ignores
+        | inr at ↦ absurd (each_has (λ d. IsApart d stores reads → ⊥) distances at.0 apart.1 at.1.0 at.1.1)
+      ])
       (tour order extents) whole.within
       (AllLater-both (λ stores reads. stores ≢ reads) (λ stores reads. EachOf (λ d. IsApart d stores reads → ⊥) distances) (tour order extents) whole.once
       (each_of_later (λ d stores reads. IsApart d stores reads → ⊥) distances (tour order extents) (reads_first rank order distances extents holds legal)))

@@ -76,5 +76,5 @@ module _ {T S F : Type 0} (first : T → S → Result S F) (Sound : S → Type 0
       ∙ ap (λ r. and_then r (run_each second turns)) (sym (step_passes (second t) turns one.0 quiet.1 passes.0 one.1.1))
       ∙ then_then (second t one.0) (run_each first turns) (run_each second turns)
       ∙ then_same (second t one.0) (λ x. and_then (run_each first turns x) (run_each second turns)) (run_each (both first second) turns)
-        (λ x is. loops_fused second turns x quiet.1 keeps.1 passes.1 (keeps.0.kept one.0 x one.1.1 is))
+      (λ x is. loops_fused second turns x quiet.1 keeps.1 passes.1 (keeps.0.kept one.0 x one.1.1 is))
       ∙ sym (ap (λ r. and_then (and_then r (second t)) (run_each (both first second) turns)) one.1.0)

@@ -37,11 +37,11 @@ module _ {T S V F : Type 0} (statement : Statement T S V F) (Sound : S → Type 
       ap (λ r. and_then r go) (ignores.0.same v s sound may)
       ∙ then_then (statement.evaluate t s) moved go
       ∙ then_same (statement.evaluate t s) (λ e. and_then (moved e) go) (λ e. and_then (go e) put)
-        (λ e is.
-            ap (λ r. and_then r (λ es. let here : Evaluated (List V) S = record { value = e.value ∷ es.value; after = es.after } in let answer : Result (Evaluated (List V) S) F = Ok here in answer))
-            (values_past turn v may keeps later e.after all_keep.1 ignores.1 (all_keep.0.evaluated s e sound is).0)
-            ∙ then_then (values statement later e.after) put (λ es. Ok (record { value = e.value ∷ es.value; after = es.after }))
-            ∙ sym (then_then (values statement later e.after) (λ es. Ok (record { value = e.value ∷ es.value; after = es.after })) put))
+      (λ e is.
+      ap (λ r. and_then r (λ es. let here : Evaluated (List V) S = record { value = e.value ∷ es.value; after = es.after } in let answer : Result (Evaluated (List V) S) F = Ok here in answer))
+      (values_past turn v may keeps later e.after all_keep.1 ignores.1 (all_keep.0.evaluated s e sound is).0)
+      ∙ then_then (values statement later e.after) put (λ es. Ok (record { value = e.value ∷ es.value; after = es.after }))
+      ∙ sym (then_then (values statement later e.after) (λ es. Ok (record { value = e.value ∷ es.value; after = es.after })) put))
       ∙ sym (then_then (statement.evaluate t s) go put)
 
   pub direct_deferred : (turns : List T) (s : S) → EachOf (Keeps statement Sound May) turns → AllLater (Ignores statement Sound May) turns → Sound s → direct statement turns s ≡ deferred statement turns s
@@ -52,11 +52,11 @@ module _ {T S V F : Type 0} (statement : Statement T S V F) (Sound : S → Type 
       let whole : Evaluated (List V) S → Result S F = λ es. Ok (store_all statement (t ∷ turns) es.value es.after) in
       then_same (statement.evaluate t s) (λ e. direct statement turns (statement.store t e.value e.after)) (λ e. and_then (go e) whole)
       (λ e is.
-          let known = keeps.0.evaluated s e sound is in
-          direct_deferred turns (statement.store t e.value e.after) keeps.1 ignores.1 (keeps.0.stored e.value e.after known.0 known.1)
-          ∙ ap (λ r. and_then r last) (values_past t e.value known.1 keeps.0 turns e.after keeps.1 ignores.0 known.0)
-          ∙ then_then (values statement turns e.after) (λ es. Ok (record { value = es.value; after = statement.store t e.value es.after })) last
-          ∙ sym (then_then (values statement turns e.after) (λ es. Ok (record { value = e.value ∷ es.value; after = es.after })) whole))
+      let known = keeps.0.evaluated s e sound is in
+      direct_deferred turns (statement.store t e.value e.after) keeps.1 ignores.1 (keeps.0.stored e.value e.after known.0 known.1)
+      ∙ ap (λ r. and_then r last) (values_past t e.value known.1 keeps.0 turns e.after keeps.1 ignores.0 known.0)
+      ∙ then_then (values statement turns e.after) (λ es. Ok (record { value = es.value; after = statement.store t e.value es.after })) last
+      ∙ sym (then_then (values statement turns e.after) (λ es. Ok (record { value = e.value ∷ es.value; after = es.after })) whole))
       ∙ sym (then_then (statement.evaluate t s) go whole)
 
   -- evaluations that leave the state alone may be taken in the state where all began
@@ -68,11 +68,11 @@ module _ {T S V F : Type 0} (statement : Statement T S V F) (Sound : S → Type 
       let whole : Evaluated (List V) S → Result S F = λ es. Ok (store_all statement (t ∷ turns) es.value (into es.after)) in
       then_then (statement.evaluate t s) go whole
       ∙ then_same (statement.evaluate t s) (λ e. and_then (go e) whole) (λ e. finish statement turns s (statement.store t e.value (into s)))
-        (λ e is.
-            let same : e.after ≡ s = still.0.after s e sound is in
-            then_then (values statement turns e.after) (λ es. Ok (record { value = e.value ∷ es.value; after = es.after })) whole
-            ∙ deferred_finish turns e.after (λ x. statement.store t e.value (into x)) (subst Sound (sym same) sound) still.1
-            ∙ ap (λ x. finish statement turns x (statement.store t e.value (into x))) same)
+      (λ e is.
+      let same : e.after ≡ s = still.0.after s e sound is in
+      then_then (values statement turns e.after) (λ es. Ok (record { value = e.value ∷ es.value; after = es.after })) whole
+      ∙ deferred_finish turns e.after (λ x. statement.store t e.value (into x)) (subst Sound (sym same) sound) still.1
+      ∙ ap (λ x. finish statement turns x (statement.store t e.value (into x))) same)
 
   finish_permuted : {xs ys : List T} (s base : S) → Permuted xs ys → Sound s → Sound base → EachOf (Keeps statement Sound May) xs → AllLater (Commutes statement Sound May) xs → AllLater (StopsAlike statement s) xs → finish statement xs s base ≡ finish statement ys s base
   unfolding finish
@@ -84,13 +84,13 @@ module _ {T S V F : Type 0} (statement : Statement T S V F) (Sound : S → Type 
       either_order (statement.evaluate x s) (statement.evaluate y s)
       (λ e d. finish statement zs s (statement.store y d.value (statement.store x e.value base))) (λ d e. finish statement zs s (statement.store x e.value (statement.store y d.value base)))
       (λ e d e_is d_is.
-          ap (finish statement zs s) (sym (commutes.0.0.same e.value d.value base base_sound (keeps.0.evaluated s e sound e_is).1 (keeps.1.0.evaluated s d sound d_is).1)))
+      ap (finish statement zs s) (sym (commutes.0.0.same e.value d.value base base_sound (keeps.0.evaluated s e sound e_is).1 (keeps.1.0.evaluated s d sound d_is).1)))
       (λ stop other x_is y_is. alike.0.0.same stop other x_is y_is)
   finish_permuted s base (join p q) sound base_sound keeps commutes alike =
       finish_permuted s base p sound base_sound keeps commutes alike
       ∙ finish_permuted s base q sound base_sound (Permuted-EachOf (Keeps statement Sound May) p keeps)
-        (Permuted-AllLater (Commutes statement Sound May) (λ a b c. record { same = λ v w x x_sound may_v may_w. sym (c.same w v x x_sound may_w may_v) }) p commutes)
-        (Permuted-AllLater (StopsAlike statement s) (λ a b c. record { same = λ f g f_is g_is. sym (c.same g f g_is f_is) }) p alike)
+      (Permuted-AllLater (Commutes statement Sound May) (λ a b c. record { same = λ v w x x_sound may_v may_w. sym (c.same w v x x_sound may_w may_v) }) p commutes)
+      (Permuted-AllLater (StopsAlike statement s) (λ a b c. record { same = λ f g f_is g_is. sym (c.same g f g_is f_is) }) p alike)
 
   pub deferred_permuted : {xs ys : List T} (s : S) → Permuted xs ys → Sound s → EachOf (Keeps statement Sound May) xs → EachOf (IsStill statement Sound) xs → AllLater (Commutes statement Sound May) xs → AllLater (StopsAlike statement s) xs → deferred statement xs s ≡ deferred statement ys s
   deferred_permuted {xs} {ys} s p sound keeps still commutes alike =

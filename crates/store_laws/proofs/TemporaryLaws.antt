@@ -88,6 +88,6 @@ module _ {T S V F : Type 0} (statement : Statement T S V F) (temporary : Tempora
       (direct_deferred (filling statement temporary) Sound May turns s fills ignores sound ∙ ap (λ r. and_then r (λ es. Ok (store_all (filling statement temporary) turns es.value es.after))) (values_same statement temporary turns s))
       ∙ then_then (values statement turns s) (λ es. Ok (store_all (filling statement temporary) turns es.value es.after)) last
       ∙ then_same (values statement turns s) (λ es. Ok (store_kept statement temporary turns (store_all (filling statement temporary) turns es.value es.after))) (λ es. Ok (store_all (filling statement temporary) turns es.value (store_all statement turns es.value es.after)))
-        (λ es is.
-            let known = values_known turns s es keeps sound is in
-            ap (λ x. let answer : Result S F = Ok x in answer) (all_kept apart turns es.value es.after keeps fills others known.0 known.1))
+      (λ es is.
+      let known = values_known turns s es keeps sound is in
+      ap (λ x. let answer : Result S F = Ok x in answer) (all_kept apart turns es.value es.after keeps fills others known.0 known.1))
