@@ -1,14 +1,14 @@
 -- The greedy choice gives a legal order, and misses none.
-use Rattle.std.proofs.Common.{◌≡◌, ◌⊎◌, ℕ, zero, suc, ◌+◌, ◌-◌, ◌<◌, ◌≤◌, Bool, true, false, not, cond, eqb, ◌&&◌, ◌||◌, List, [], ◌∷◌, length, map, Option, Some, None, refl, sym, ap, ◌∙◌, subst, inl, inr, arith}
-use Rattle.std.specs.Prelude.{IsTrue, filter, find, option_map, option_and_then}
-use Rattle.std.specs.List.{list_any, list_all}
-use Rattle.std.proofs.lemmas.Bool.{and_parts, and_cases, and_from, not-true, not-false, not_from_false, false≢true, both_ways, and_left, and_right, cases_Bool, eqb-true, eqb-false, eq-eqb, ne_eqb, cases_eq}
-use Rattle.a95_base.specs.Lists.{EachOf, Has, Permuted, down_to_one}
+use Rattle.std.proofs.Common.{◌≡◌, ◌⊎◌, ℕ, zero, suc, Bool, true, false, not, cond, eqb, ◌&&◌, ◌||◌, List, [], ◌∷◌, length, Option, Some, None, refl, sym, ap, ◌∙◌, subst, inl, inr, arith}
+use Rattle.std.specs.Prelude.{IsTrue, find, option_map, option_and_then}
+use Rattle.std.specs.List.{list_any}
+use Rattle.std.proofs.lemmas.Bool.{and_parts, and_cases, and_from, not-true, not_from_false, false≢true, both_ways, and_left, and_right, cases_Bool, eq-eqb, ne_eqb, cases_eq}
+use Rattle.a95_base.specs.Lists.{EachOf, Has, Permuted}
 use Rattle.a95_base.specs.Lists.Permuted.{none, skip, swap, join}
 use Rattle.a95_base.proofs.Lists.{EachOf-weaker, EachOf-both, EachOf-all}
-use Rattle.a95_base.proofs.Permuted.{permuted_same, permuted_equal, permuted_back, Permuted-Has, Permuted-length}
+use Rattle.a95_base.proofs.Permuted.{permuted_equal, permuted_back, Permuted-Has, Permuted-length}
 use Rattle.rank_shape.specs.declared.distance.Entry.{Entry}
-use Rattle.rank_shape.specs.Order.{Level, IsOrder, loops_of}
+use Rattle.rank_shape.specs.Order.{Level, loops_of}
 use Rattle.loop_order.specs.declared.sign.Sign.{Sign}
 use Rattle.loop_order.specs.declared.sign.Sign.TheVariants.{Unknown, Still, Up, Down}
 use Rattle.loop_order.specs.Legal.{sign_at, meets, settles, IsLegal}

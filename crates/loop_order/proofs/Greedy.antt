@@ -1,19 +1,19 @@
 -- The steps of the code that makes the greedy choice.
-use Rattle.std.proofs.Common.{◌≡◌, ◌⊎◌, ℕ, zero, suc, ◌+◌, ◌-◌, ◌<◌, ◌≤◌, Bool, true, false, not, cond, List, [], ◌∷◌, ◌++◌, length, get_or, set, take, replicate, Option, Some, None, refl, sym, ap, ◌∙◌, subst, inl, inr, arith, append_assoc}
-use Rattle.std.specs.Prelude.{IsTrue, IsSome, IfSome, IfNone, ◌↔◌, find, filter, option_map, option_and_then}
-use Rattle.std.proofs.lemmas.Bool.{cases_eq, not-true, false≢true}
+use Rattle.std.proofs.Common.{◌≡◌, ℕ, suc, ◌+◌, ◌-◌, ◌<◌, ◌≤◌, Bool, true, false, not, List, [], ◌∷◌, ◌++◌, length, set, take, replicate, Option, Some, None, refl, sym, ap, ◌∙◌, subst, arith, append_assoc}
+use Rattle.std.specs.Prelude.{IsSome, IfSome, IfNone, find, option_map, option_and_then}
+use Rattle.std.proofs.lemmas.Bool.{not-true, false≢true}
 use Rattle.std.proofs.lemmas.List.{take_all, take_more_set, append-nil, length-take}
-use Rattle.a95_base.specs.Lists.{EachOf, Has, Permuted, down_to_one}
-use Rattle.a95_base.proofs.Lists.{each_has, EachOf-weaker}
+use Rattle.a95_base.specs.Lists.{Has, Permuted, down_to_one}
+use Rattle.a95_base.proofs.Lists.{each_has}
 use Rattle.a95_base.proofs.Permuted.{length-down_to_one, each_from_one, Has-down_to_one, permuted_back, Permuted-Has}
 use Rattle.rank_shape.specs.declared.distance.Entry.{Entry}
-use Rattle.rank_shape.specs.Order.{Level, IsOrder, levels, loops_of}
+use Rattle.rank_shape.specs.Order.{Level, IsOrder, levels}
 use Rattle.rank_shape.specs.Fields.{loops_of-levels}
 use Rattle.loop_order.specs.Legal.{IsLegal}
-use Rattle.loop_order.specs.Choice.{is_up, some_entry, suits, unsettled, without, choice, chosen, IsAllowed}
+use Rattle.loop_order.specs.Choice.{is_up, some_entry, suits, unsettled, without, choice, chosen}
 use Rattle.loop_order.specs.Left.{is_taken, loops_left, open_distances}
 use Rattle.loop_order.proofs.Signs.{EachOf-filter}
-use Rattle.loop_order.proofs.Choices.{choice_legal, choice_none, find_some, some_is}
+use Rattle.loop_order.proofs.Choices.{choice_legal, choice_none, find_some}
 use Rattle.loop_order.proofs.Lefts.{all_open_at_first, all_left_at_first, one_more_taken, one_more_settled}
 
 map_same : {A : Type 0} (o : Option A) → option_map (λ (x : A). x) o ≡ o

@@ -1,19 +1,18 @@
 -- What is left of the choice where one more loop is taken, and one more distance looked at.
-use Rattle.std.proofs.Common.{◌≡◌, ◌⊎◌, ℕ, zero, suc, ◌+◌, ◌-◌, ◌<◌, ◌≤◌, Bool, true, false, not, cond, eqb, ◌&&◌, ◌||◌, List, [], ◌∷◌, length, get_or, set, drop, map, replicate, refl, sym, ap, ◌∙◌, subst, inl, inr, arith}
-use Rattle.std.specs.Prelude.{IsTrue, ◌↔◌, filter, find}
-use Rattle.std.specs.List.{list_any, list_all}
-use Rattle.std.proofs.lemmas.Bool.{cases_eq, cases_lt, eq-eqb, ne_eqb, false≢true, both_ways, and_parts, and_from}
-use Rattle.std.proofs.lemmas.List.{drop_more, get_or-set_same, get_or-set_other, get_or-replicate, get_or_past, drop-map, get_or-map}
-use Rattle.a95_base.specs.Lists.{EachOf, Has, down_to_one}
+use Rattle.std.proofs.Common.{◌≡◌, ℕ, zero, suc, ◌+◌, ◌-◌, ◌<◌, ◌≤◌, Bool, true, false, not, cond, ◌&&◌, ◌||◌, List, [], ◌∷◌, length, get_or, set, drop, replicate, refl, sym, ap, ◌∙◌, inl, inr, arith}
+use Rattle.std.specs.Prelude.{IsTrue, ◌↔◌, filter}
+use Rattle.std.specs.List.{list_all}
+use Rattle.std.proofs.lemmas.Bool.{cases_eq, eq-eqb, ne_eqb, and_parts, and_from}
+use Rattle.std.proofs.lemmas.List.{drop_more, get_or-set_same, get_or-set_other}
+use Rattle.a95_base.specs.Lists.{EachOf, down_to_one}
 use Rattle.a95_base.proofs.Lists.{EachOf-weaker}
 use Rattle.a95_base.proofs.Permuted.{each_from_one}
 use Rattle.rank_shape.specs.declared.distance.Entry.{Entry}
 use Rattle.rank_shape.specs.declared.distance.Entry.TheVariants as entry
 use Rattle.loop_order.specs.declared.sign.Sign.{Sign}
-use Rattle.loop_order.specs.declared.sign.Sign.TheVariants.{Unknown, Still, Up, Down}
 use Rattle.loop_order.specs.Legal.{sign_of, sign_at, settles, IsLegal}
 use Rattle.rank_shape.specs.Order.{Level}
-use Rattle.loop_order.specs.Choice.{is_still, is_unknown, is_up, is_down, some_entry, unsettled, without, suits}
+use Rattle.loop_order.specs.Choice.{is_still, some_entry, unsettled, without}
 use Rattle.loop_order.specs.Left.{is_taken, loops_left, is_open, open_distances}
 
 -- ---- nothing taken yet

@@ -3,3 +3,4 @@ pub mod Choices
 pub mod Turns
 pub mod Lefts
 pub mod Greedy
+pub mod Turned

@@ -1,16 +1,14 @@
 -- What signs say of entries, and what a level makes of a distance.
-use Rattle.std.proofs.Common.{◌≡◌, ◌⊎◌, ℕ, ℤ, zero, suc, pos, negsuc, ◌+◌, ◌-◌, ◌<◌, ◌≤◌, ◌+ℤ◌, Bool, true, false, cond, not, ◌&&◌, ◌||◌, List, [], ◌∷◌, refl, sym, ap, ◌∙◌, subst, inl, inr, arith}
-use Rattle.std.specs.Prelude.{IsTrue, filter}
+use Rattle.std.proofs.Common.{◌≡◌, ℕ, zero, suc, pos, negsuc, ◌<◌, Bool, true, false, cond, ◌||◌, List, [], ◌∷◌, refl, sym, ap, ◌∙◌, arith}
+use Rattle.std.specs.Prelude.{filter}
 use Rattle.std.specs.List.{list_any}
 use Rattle.std.proofs.lemmas.Int.{ints}
-use Rattle.std.proofs.lemmas.Bool.{and_parts, or_parts, or_cases, not-true, false≢true, both_ways, and_left, and_right}
+use Rattle.std.proofs.lemmas.Bool.{or_parts, false≢true}
 use Rattle.a95_base.specs.Lists.{EachOf}
 use Rattle.rank_shape.specs.declared.distance.Entry.{Entry}
 use Rattle.rank_shape.specs.declared.distance.Entry.TheVariants as entry
-use Rattle.loop_order.specs.declared.sign.Sign.{Sign}
-use Rattle.loop_order.specs.declared.sign.Sign.TheVariants.{Unknown, Still, Up, Down}
-use Rattle.loop_order.specs.Legal.{sign_of, meets}
-use Rattle.loop_order.specs.Choice.{is_unknown, is_still, is_up, is_down}
+use Rattle.loop_order.specs.declared.sign.Sign.TheVariants.{Still, Up, Down}
+use Rattle.loop_order.specs.Legal.{sign_of}
 use Rattle.loop_order.specs.Apart.{Differs}
 
 pub still_same : (e : Entry) (i j : ℕ) → sign_of e ≡ Still → Differs e i j → j ≡ i

@@ -1,20 +1,19 @@
 -- In a legal order the turn that reads comes no later than the turn that stores.
-use Rattle.std.proofs.Common.{◌≡◌, ◌≢◌, ◌⊎◌, ℕ, ℤ, zero, suc, pos, negsuc, ◌+◌, ◌-◌, ◌<◌, ◌≤◌, Bool, true, false, not, List, [], ◌∷◌, ◌++◌, length, get_or, set, map, reverse, refl, sym, ap, ◌∙◌, subst, inl, inr, arith}
+use Rattle.std.proofs.Common.{◌≡◌, ◌≢◌, ◌⊎◌, ℕ, zero, suc, ◌-◌, ◌<◌, ◌≤◌, Bool, true, false, List, [], ◌∷◌, length, get_or, set, map, reverse, refl, sym, ◌∙◌, subst, inl, inr, arith}
 use Rattle.std.specs.Prelude.{IsTrue}
-use Rattle.std.specs.List.{flat_map}
-use Rattle.std.proofs.lemmas.Bool.{cases_lt, false≢true, not-true}
+use Rattle.std.proofs.lemmas.Bool.{cases_lt, false≢true}
 use Rattle.std.proofs.lemmas.List.{reverse-append, get_or_past, get_or-set_same, length-set, length-map}
-use Rattle.a95_base.specs.Lists.{EachOf, AllLater, Has, Permuted, count_to, down_to_one}
-use Rattle.a95_base.proofs.Lists.{EachOf-append, EachOf-weaker, EachOf-all, EachOf-both, EachOf-from_map, each_below, AllLater-append, AllLater-weaker_on, AllLater-weaker, AllLater-both, AllLater-all, AllLater-flat_map, AllLater-from_map, count_to_rises}
+use Rattle.a95_base.specs.Lists.{EachOf, AllLater, count_to, down_to_one}
+use Rattle.a95_base.proofs.Lists.{EachOf-weaker, EachOf-both, AllLater-append, AllLater-weaker_on, AllLater-all, AllLater-flat_map, AllLater-from_map, count_to_rises}
 use Rattle.a95_base.proofs.Permuted.{each_from_one, permuted_back, Permuted-EachOf, Permuted-AllLater, Permuted-reverse}
 use Rattle.rank_shape.specs.declared.distance.Entry.{Entry}
 use Rattle.rank_shape.specs.declared.distance.Entry.TheVariants as entry
-use Rattle.rank_shape.specs.Order.{Level, IsOrder, loops_of}
+use Rattle.rank_shape.specs.Order.{Level, IsOrder}
 use Rattle.rank_shape.specs.Walk.{turns_of, tour_from, tour}
 use Rattle.rank_shape.proofs.Walks.{turns_below, tour_keeps, tour_long}
 use Rattle.loop_order.specs.declared.sign.Sign.{Sign}
 use Rattle.loop_order.specs.declared.sign.Sign.TheVariants.{Unknown, Still, Up, Down}
-use Rattle.loop_order.specs.Legal.{sign_of, sign_at, meets, settles, IsLegal}
+use Rattle.loop_order.specs.Legal.{sign_at, meets, settles, IsLegal}
 use Rattle.loop_order.specs.Apart.{Differs, IsApart}
 use Rattle.loop_order.proofs.Signs.{still_same, up_later, down_earlier}
 
@@ -23,7 +22,7 @@ abbrev pub Before : Bool → ℕ → ℕ → Type 0
 Before false i j = i < j
 Before true i j = j < i
 
-AllLater-reverse : {A : Type 0} (R : A → A → Type 0) (xs : List A) → AllLater R xs → AllLater (λ x y. R y x) (reverse xs)
+pub AllLater-reverse : {A : Type 0} (R : A → A → Type 0) (xs : List A) → AllLater R xs → AllLater (λ x y. R y x) (reverse xs)
 AllLater-reverse R [] h = tt
 AllLater-reverse R (x ∷ xs) h =
     let P : List _ → Type 0 = λ ys. AllLater (λ a b. R b a) ys in

@@ -36,3 +36,7 @@ IsLegal order = EachOf (λ distance. IsTrue (settles order distance))
 
 abbrev pub distances_of : (rank : ℕ) → List (Dist rank) → List (List Entry)
 distances_of rank = map (λ dist. dist.entries)
+
+-- the same loops, each run the other way
+abbrev pub turned : List Level → List Level
+turned = map (λ level. record { number = level.number; down = not level.down })

@@ -7,7 +7,7 @@ mod order;
 mod sign;
 
 pub use choice::choose;
-pub use order::{legal, reads_come_first};
+pub use order::{legal, reads_come_first, stores_come_first};
 
 #[cfg(test)]
 mod tests;

@@ -3,7 +3,7 @@ ghost use Rattle.std.specs.List.{list_all};
 ghost use Rattle.a95_base.specs.Lists.{EachOf, AllLater};
 ghost use Rattle.rank_shape.specs.Walk.{tour};
 ghost use Rattle.loop_order.specs.Apart.{IsApart};
-ghost use Rattle.loop_order.specs.Legal.{IsLegal, distances_of, settles};
+ghost use Rattle.loop_order.specs.Legal.{IsLegal, distances_of, settles, turned};
 
 use crate::sign::{Sign, sign_in};
 use rank_shape::{Dist, Entry, Order, Shape};
@@ -27,6 +27,15 @@ pub fn legal<const R: usize>(order: &Order<R>, dists: &[Dist<R>]) -> bool
 pub fn reads_come_first<const R: usize>(shape: &Shape<R>, order: &Order<R>, dists: &[Dist<R>])
     requires { IsLegal order.now (distances_of R dists.now) }
     ensures { EachOf (λ distance. AllLater (λ stores reads. ¬ IsApart distance stores reads) (tour order.now shape.now)) (distances_of R dists.now) }
+{
+    order.known();
+}
+
+/// The same law for fused loops, whose distances go from the turn of the first to the turn of the second: where the loops, run
+/// the other way, would be legal, the turn that reads comes no earlier in the walk than the one that stores.
+pub fn stores_come_first<const R: usize>(shape: &Shape<R>, order: &Order<R>, dists: &[Dist<R>])
+    requires { IsLegal (turned order.now) (distances_of R dists.now) }
+    ensures { EachOf (λ distance. AllLater (λ reads stores. ¬ IsApart distance stores reads) (tour order.now shape.now)) (distances_of R dists.now) }
 {
     order.known();
 }

@@ -90,6 +90,7 @@ fn one_loop_and_seven(rt: HostRuntime) -> Result<(), Fail> {
     let shape = Shape::new([1, 2, 1, 2, 1, 1, 1]).ok_or("shape")?;
     if legal(&order, &cube) {
         reads_come_first(&shape, &order, &cube);
+        stores_come_first(&shape, &order, &[]);
     }
     assert_eq!(rt; walk(shape, order).count(), 4);
     Ok(())

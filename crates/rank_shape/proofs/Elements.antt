@@ -1,16 +1,15 @@
 -- The walk in array element order: all places by number.
-use Rattle.std.proofs.Common.{◌≡◌, ◌≢◌, ◌⊎◌, ℕ, zero, suc, ◌+◌, ◌*◌, ◌-◌, ◌<◌, ◌≤◌, Bool, true, false, List, [], ◌∷◌, ◌++◌, length, get_or, set, take, drop, map, refl, sym, ap, ◌∙◌, subst, inl, inr, arith, append_assoc, length-append}
+use Rattle.std.proofs.Common.{◌≡◌, ◌≢◌, ℕ, zero, suc, ◌+◌, ◌*◌, ◌-◌, ◌<◌, ◌≤◌, List, [], ◌∷◌, ◌++◌, length, get_or, set, take, map, refl, sym, ap, ◌∙◌, inl, arith, append_assoc}
 use Rattle.std.specs.List.{flat_map}
 use Rattle.std.proofs.Math.Nat.{mul_assoc, mul_comm, add_comm}
-use Rattle.std.proofs.lemmas.Bool.{cases_eq, cases_lt}
 use Rattle.std.proofs.lemmas.List.{get_or-set_same, length-set, take_all, map-append, append-nil, length-map}
 use Rattle.std.proofs.lemmas.List.Concat.{flat_map-append}
-use Rattle.a95_base.specs.Lists.{EachOf, AllLater, Has, Permuted, count_to, down_to_one}
-use Rattle.a95_base.proofs.Lists.{each_below, each_has, EachOf-weaker, EachOf-both, EachOf-all, map_agree, flat_map_agree, Has-map, Has-count_to, count_to_rises, AllLater-map, AllLater-weaker_on, EachOf-map, length-count_to}
+use Rattle.a95_base.specs.Lists.{EachOf, Has, count_to}
+use Rattle.a95_base.proofs.Lists.{EachOf-weaker, EachOf-both, EachOf-all, map_agree, flat_map_agree}
 use Rattle.rank_shape.specs.Shape.{IsPlace, size_of, number_of, place_at, places_of}
 use Rattle.rank_shape.specs.Order.{Level, IsOrder, loops_of, element_order_of}
-use Rattle.rank_shape.specs.Walk.{turns_of, tour_from, tour}
-use Rattle.rank_shape.proofs.Numbers.{place_within, number_of-place_at, place_at-number_of}
+use Rattle.rank_shape.specs.Walk.{tour_from, tour}
+use Rattle.rank_shape.proofs.Numbers.{place_at-number_of}
 use Rattle.rank_shape.proofs.Walks.{tour_keeps, tour_long, tour_within}
 use Rattle.rank_shape.proofs.Orders.{element_is_order}
 use Rattle.a95_base.proofs.Permuted.{Has-down_to_one, permuted_back, Permuted-Has}

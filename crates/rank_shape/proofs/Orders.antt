@@ -1,5 +1,5 @@
 -- Orders as two lists of fields, and what each order's list of levels has.
-use Rattle.std.proofs.Common.{◌≡◌, ℕ, zero, suc, ◌+◌, ◌-◌, ◌<◌, ◌≤◌, Bool, true, false, eqb, List, [], ◌∷◌, ◌++◌, length, get_or, set, take, map, replicate, refl, sym, ap, ◌∙◌, subst, inl, inr, arith, append_assoc}
+use Rattle.std.proofs.Common.{◌≡◌, ℕ, zero, suc, ◌+◌, ◌-◌, ◌<◌, ◌≤◌, Bool, true, false, eqb, List, [], ◌∷◌, ◌++◌, length, get_or, set, take, replicate, refl, sym, ap, ◌∙◌, subst, inl, inr, arith, append_assoc}
 use Rattle.a95_base.specs.Lists.{EachOf, Has, Permuted, down_to_one}
 use Rattle.a95_base.proofs.Permuted.{pigeonhole, length-down_to_one, each_from_one, permuted_back, permuted_equal, Permuted-EachOf}
 use Rattle.std.proofs.lemmas.List.{length-replicate, take_more_set, take_all, append-nil}

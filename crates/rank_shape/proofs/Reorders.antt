@@ -1,16 +1,16 @@
 -- The walk in any order is a reordering of the walk in array element order, and has every place of the shape once.
-use Rattle.std.proofs.Common.{◌≡◌, ◌≢◌, ◌⊎◌, ℕ, zero, suc, ◌-◌, ◌<◌, ◌≤◌, Bool, true, false, List, [], ◌∷◌, ◌++◌, length, get_or, set, map, reverse, refl, sym, ap, ◌∙◌, subst, inl, inr, arith}
+use Rattle.std.proofs.Common.{◌≡◌, ◌≢◌, ℕ, ◌-◌, ◌<◌, Bool, true, false, List, [], ◌∷◌, length, get_or, set, map, sym, ap, ◌∙◌, subst, inl, inr, arith}
 use Rattle.std.specs.List.{flat_map}
 use Rattle.std.proofs.lemmas.Bool.{cases_eq}
 use Rattle.std.proofs.lemmas.List.{set_comm, length-map}
-use Rattle.a95_base.specs.Lists.{EachOf, AllLater, Has, Permuted, count_to, down_to_one}
+use Rattle.a95_base.specs.Lists.{AllLater, Has, Permuted, count_to, down_to_one}
 use Rattle.a95_base.specs.Lists.Permuted.{none, skip, swap, join}
-use Rattle.a95_base.proofs.Lists.{each_below, EachOf-weaker, EachOf-all, EachOf-map, flat_map_agree, Has-map, Has-count_to, count_to_rises, AllLater-map, AllLater-weaker_on, length-count_to}
-use Rattle.a95_base.proofs.Permuted.{Permuted-reverse, permuted_same, permuted_equal, permuted_back, Permuted-EachOf, Permuted-Has, Permuted-AllLater, Permuted-length, Permuted-flat_map, Permuted-pieces, loops_turned}
-use Rattle.rank_shape.specs.Shape.{IsPlace, size_of, number_of, place_at, places_of}
+use Rattle.a95_base.proofs.Lists.{each_below, EachOf-all, flat_map_agree, Has-map, Has-count_to, count_to_rises, AllLater-map, AllLater-weaker_on, length-count_to}
+use Rattle.a95_base.proofs.Permuted.{Permuted-reverse, permuted_same, permuted_equal, permuted_back, Permuted-Has, Permuted-AllLater, Permuted-length, Permuted-flat_map, Permuted-pieces, loops_turned}
+use Rattle.rank_shape.specs.Shape.{size_of, number_of, place_at, places_of}
 use Rattle.rank_shape.specs.Order.{Level, IsOrder, loops_of, element_order_of}
 use Rattle.rank_shape.specs.Walk.{turns_of, tour_from, tour, IsWhole}
-use Rattle.rank_shape.proofs.Numbers.{number_below, place_within, number_of-place_at, place_at-number_of}
+use Rattle.rank_shape.proofs.Numbers.{number_below, number_of-place_at, place_at-number_of}
 use Rattle.rank_shape.proofs.Orders.{element_loops}
 use Rattle.rank_shape.proofs.Elements.{order_within, element_tour}
 

@@ -1,14 +1,13 @@
 -- One level of the code that finds the place of a turn.
-use Rattle.std.proofs.Common.{◌≡◌, ℕ, ℤ, pos, zero, suc, ◌+◌, ◌*◌, ◌/◌, ◌%◌, ◌-◌, ◌^◌, ◌<◌, ◌≤◌, ◌≤ℤ◌, Bool, true, false, List, [], ◌∷◌, length, get_or, set, drop, map, replicate, unsigned_abs, refl, sym, ap, ◌∙◌, subst, arith}
+use Rattle.std.proofs.Common.{◌≡◌, ℕ, ℤ, pos, zero, suc, ◌+◌, ◌*◌, ◌/◌, ◌%◌, ◌-◌, ◌<◌, ◌≤◌, ◌≤ℤ◌, false, List, [], ◌∷◌, length, get_or, set, drop, map, replicate, unsigned_abs, refl, sym, ap, ◌∙◌, subst, arith}
 use Rattle.std.proofs.Math.Nat.{mul_comm}
 use Rattle.std.proofs.lemmas.Nat.{mod_below, div_below, div-mul-add, mul-le}
 use Rattle.std.proofs.lemmas.Int.{ints}
 use Rattle.std.proofs.lemmas.List.{drop_more, drop_all, map-set, length-map}
-use Rattle.a95_base.specs.Lists.{EachOf, Permuted, down_to_one}
 use Rattle.a95_base.proofs.Lists.{EachOf-set}
 use Rattle.a95_base.proofs.Permuted.{Permuted-length, length-down_to_one}
 use Rattle.rank_shape.specs.Shape.{AreNatural, naturals, size_of}
-use Rattle.rank_shape.specs.Order.{Level, IsOrder, level_at, loops_of}
+use Rattle.rank_shape.specs.Order.{Level, IsOrder, level_at}
 use Rattle.rank_shape.specs.Turn.{turns_in, subscript_at, visited}
 use Rattle.rank_shape.proofs.Walks.{positive, tour_length, tour_turn}
 use Rattle.rank_shape.proofs.Reorders.{order_whole}

@@ -1,18 +1,16 @@
 -- What the places of nested loops are: their number, their ranges, and those of array element order.
-use Rattle.std.proofs.Common.{◌≡◌, ◌≢◌, ◌⊎◌, ℕ, zero, suc, ◌+◌, ◌*◌, ◌/◌, ◌%◌, ◌-◌, ◌<◌, ◌≤◌, Bool, true, false, List, [], ◌∷◌, ◌++◌, length, get_or, set, take, drop, map, reverse, refl, sym, ap, ◌∙◌, subst, inl, inr, arith, append_assoc, length-append}
+use Rattle.std.proofs.Common.{◌≡◌, ◌≢◌, ◌⊎◌, ℕ, zero, suc, ◌+◌, ◌*◌, ◌/◌, ◌%◌, ◌-◌, ◌<◌, Bool, true, false, List, [], ◌∷◌, ◌++◌, length, get_or, set, refl, sym, ap, ◌∙◌, subst, inl, inr, arith, length-append}
 use Rattle.std.specs.List.{flat_map}
-use Rattle.std.proofs.Math.Nat.{mul_assoc, mul_comm, add_comm}
 use Rattle.std.proofs.lemmas.Nat.{mod_below, div_below, div-add-mod'}
-use Rattle.std.proofs.lemmas.Bool.{cases_eq, cases_lt}
-use Rattle.std.proofs.lemmas.List.{length-reverse, get_or-reverse, get_or_append_left, get_or-append-add, get_or_default, get_or-set_same, get_or-set_other, length-set, set_past, get_or_past, take_all, map-append, append-nil}
-use Rattle.a95_base.specs.Lists.{EachOf, AllLater, Has, Permuted, count_to, down_to_one}
-use Rattle.a95_base.proofs.Lists.{length-count_to, get_or-count_to, each_below, EachOf-weaker, EachOf-both, EachOf-flat_map, EachOf-all, EachOf-map, map_agree, flat_map_agree, Has-map, Has-count_to, count_to_rises, AllLater-map, AllLater-weaker_on}
-use Rattle.a95_base.proofs.Permuted.{Permuted-reverse, permuted_same, permuted_back, Permuted-EachOf, Permuted-Has, Permuted-AllLater, Permuted-length}
-use Rattle.rank_shape.specs.Shape.{IsPlace, size_of, number_of, place_at, places_of}
-use Rattle.rank_shape.specs.Order.{Level, loops_of, element_order_of}
-use Rattle.rank_shape.specs.Walk.{turns_of, tour_from, tour, IsWhole}
+use Rattle.std.proofs.lemmas.Bool.{cases_eq}
+use Rattle.std.proofs.lemmas.List.{length-reverse, get_or-reverse, get_or_append_left, get_or-append-add, get_or-set_same, get_or-set_other, length-set}
+use Rattle.a95_base.specs.Lists.{EachOf, Has, count_to}
+use Rattle.a95_base.proofs.Lists.{length-count_to, get_or-count_to, each_below, EachOf-weaker, EachOf-flat_map, EachOf-all}
+use Rattle.a95_base.proofs.Permuted.{Permuted-reverse, permuted_back, Permuted-EachOf}
+use Rattle.rank_shape.specs.Shape.{IsPlace}
+use Rattle.rank_shape.specs.Order.{Level, loops_of}
+use Rattle.rank_shape.specs.Walk.{turns_of, tour_from}
 use Rattle.rank_shape.specs.Turn.{turns_in, subscript_at, visited}
-use Rattle.rank_shape.proofs.Numbers.{number_below, place_within, number_of-place_at, place_at-number_of}
 
 pub length-turns_of : (down : Bool) (extent : ℕ) → length (turns_of down extent) ≡ extent
 length-turns_of false extent = length-count_to extent

@@ -12,7 +12,7 @@ pub use any_shape::AnyShape;
 pub use distance::{Dist, Entry};
 pub use order::Order;
 pub use shape::{Place, Shape};
-pub use tour::{Tour, walk};
+pub use tour::{Tour, element_order_walk, walk};
 
 #[cfg(test)]
 mod tests;

@@ -71,6 +71,7 @@ fn walks_go_through_each_place(rt: HostRuntime) -> Result<(), Fail> {
     let backwards = Order::new([1], [true]).ok_or("backwards")?;
     assert_eq!(rt; walk(row, backwards).next(), Some(Place { at: [2] }));
     let cube = Shape::new([1, 2, 1, 2, 1, 2, 3]).ok_or("cube")?;
+    element_order_walk(&cube);
     assert_eq!(rt; walk(cube, Order::element_order()).count(), 24);
     Ok(())
 }

@@ -1,6 +1,6 @@
-ghost use Rattle.std.specs.Prelude.{◌≡◌, ◌<◌, ◌≤◌, ◌^◌, length, map, pos, drop, slice_index};
-ghost use Rattle.rank_shape.specs.Order.{IsOrder};
-ghost use Rattle.rank_shape.specs.Shape.{IsShape, size_of, naturals};
+ghost use Rattle.std.specs.Prelude.{◌≡◌, ◌<◌, ◌≤◌, ◌^◌, map, pos};
+ghost use Rattle.rank_shape.specs.Order.{element_order_of};
+ghost use Rattle.rank_shape.specs.Shape.{places_of};
 ghost use Rattle.rank_shape.specs.Walk.{tour, IsWhole};
 ghost use Rattle.rank_shape.specs.Turn.{visited, turns_in, subscript_at};
 
@@ -42,6 +42,13 @@ pub fn walk<const R: usize>(shape: Shape<R>, order: Order<R>) -> Tour<R>
         size,
         turn: 0,
     }
+}
+
+/// The law of array element order: its walk has the places by their numbers.
+pub fn element_order_walk<const R: usize>(shape: &Shape<R>)
+    ensures { tour (element_order_of R) shape.now ≡ places_of shape.now }
+{
+    shape.known();
 }
 
 impl<const R: usize> Iterator for Tour<R> {

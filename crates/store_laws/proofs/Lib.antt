@@ -1,3 +1,4 @@
 pub mod LegalLaws
 pub mod LoopLaws
 pub mod StoreLaws
+pub mod TemporaryLaws

@@ -57,3 +57,31 @@ pub record Commutes {T S V F : Type 0} (statement : Statement T S V F) (Sound : 
 -- where both turns stop the run, they do so alike
 pub record StopsAlike {T S V F : Type 0} (statement : Statement T S V F) (s : S) (turn other : T) : Type 0 where
   pub same : (f g : F) → statement.evaluate turn s ≡ Err f → statement.evaluate other s ≡ Err g → f ≡ g
+
+-- a temporary has a place of its own for the value of each turn
+pub record Temporary (T S V : Type 0) : Type 0 where
+  pub keep : T → V → S → S
+  pub fetch : T → S → V
+
+-- the first of two loops keeps each value in the temporary
+abbrev pub filling : {T S V F : Type 0} → Statement T S V F → Temporary T S V → Statement T S V F
+filling statement temporary = record { evaluate = statement.evaluate; store = temporary.keep }
+
+-- the second stores from it
+abbrev pub store_kept : {T S V F : Type 0} → Statement T S V F → Temporary T S V → List T → S → S
+store_kept statement temporary [] s = s
+store_kept statement temporary (turn ∷ turns) s = store_kept statement temporary turns (statement.store turn (temporary.fetch turn s) s)
+
+abbrev pub through : {T S V F : Type 0} → Statement T S V F → Temporary T S V → List T → S → Result S F
+through statement temporary turns s =
+    and_then (direct (filling statement temporary) turns s) (λ filled. Ok (store_kept statement temporary turns filled))
+
+-- the temporary gives back what it keeps, and no store touches it nor is touched by it
+pub record IsKeptApart {T S V F : Type 0} (statement : Statement T S V F) (temporary : Temporary T S V) (Sound : S → Type 0) (May : T → V → Type 0) : Type 0 where
+  pub given_back : (turn : T) (v : V) (s : S) → Sound s → May turn v → temporary.fetch turn (temporary.keep turn v s) ≡ v
+  pub untouched : (turn other : T) (v : V) (s : S) → Sound s → May other v → temporary.fetch turn (statement.store other v s) ≡ temporary.fetch turn s
+  pub aside : (turn other : T) (v w : V) (s : S) → Sound s → May turn v → May other w → statement.store turn v (temporary.keep other w s) ≡ temporary.keep other w (statement.store turn v s)
+
+-- the two turns have different places in the temporary
+pub record KeepsOther {T S V : Type 0} (temporary : Temporary T S V) (Sound : S → Type 0) (May : T → V → Type 0) (turn later : T) : Type 0 where
+  pub same : (v : V) (s : S) → Sound s → May later v → temporary.fetch turn (temporary.keep later v s) ≡ temporary.fetch turn s

@@ -14,7 +14,7 @@ ghost use Rattle.rank_shape.specs.Walk.{tour};
 ghost use Rattle.loop_order.specs.Legal.{IsLegal, distances_of};
 ghost use Rattle.store_laws.specs.Legal.{IsTold, KeepsPlaces, IsFree};
 ghost use Rattle.store_laws.specs.Loops.{run_each, nested, both, start_of, IsQuiet, KeepsSound, Passes};
-ghost use Rattle.store_laws.specs.Store.{Statement, and_then, direct, deferred, Keeps, Ignores, IsStill, Commutes, StopsAlike};
+ghost use Rattle.store_laws.specs.Store.{Statement, and_then, direct, values, store_all, deferred, Keeps, Ignores, IsStill, Commutes, StopsAlike, Temporary, filling, through, IsKeptApart, KeepsOther};
 
 use rank_shape::{Dist, Order, Shape};
 
@@ -101,4 +101,18 @@ pub fn loops_made_one<T, S, F>()
         AllLater (λ t later. Passes (second t) first (λ s. IsTrue (sound s)) later) turns →
         IsTrue (sound s) →
         and_then (run_each first turns s) (run_each second turns) ≡ run_each (both first second) turns s }
+{}
+
+/// Two loops, of which the first keeps each value in a temporary and the second stores from it, do what a store after all
+/// evaluations does; besides that, the temporary then has the values.
+pub fn store_through_temporary<T, S, V, F>()
+    ensures { (statement : Statement T S V F) (temporary : Temporary T S V) (sound : S → Bool) (may : T → V → Bool) (turns : List T) (s : S) →
+        IsKeptApart statement temporary (λ s. IsTrue (sound s)) (λ t v. IsTrue (may t v)) →
+        EachOf (Keeps statement (λ s. IsTrue (sound s)) (λ t v. IsTrue (may t v))) turns →
+        EachOf (Keeps (filling statement temporary) (λ s. IsTrue (sound s)) (λ t v. IsTrue (may t v))) turns →
+        AllLater (Ignores (filling statement temporary) (λ s. IsTrue (sound s)) (λ t v. IsTrue (may t v))) turns →
+        AllLater (KeepsOther temporary (λ s. IsTrue (sound s)) (λ t v. IsTrue (may t v))) turns →
+        IsTrue (sound s) →
+        through statement temporary turns s
+        ≡ and_then (values statement turns s) (λ es. Ok (store_all (filling statement temporary) turns es.value (store_all statement turns es.value es.after))) }
 {}

@@ -1,4 +1,4 @@
-use Rattle.std.proofs.Common.{Bool, subst, sym, ap, ◌∙◌}
+use Rattle.std.proofs.Common.{Bool, subst, sym}
 use Rattle.std.specs.Prelude.{IfSome, IfNone, List}
 use Rattle.rank_shape.specs.Order.{Level}
 use Rattle.loop_order.specs.Legal.{IsLegal, distances_of}

@@ -1,9 +1,8 @@
-use Rattle.std.proofs.Common.{◌-◌, arith, false, sym, ap, ◌∙◌, replicate, pos}
+use Rattle.std.proofs.Common.{◌-◌, arith, false, ◌∙◌, replicate}
 use Rattle.std.proofs.lemmas.List.{length-replicate, length-set}
 use Rattle.loop_order.specs.Legal.{distances_of}
 use Rattle.loop_order.specs.Choice.{suits}
 use Rattle.loop_order.specs.Left.{open_distances}
-use Rattle.rank_shape.specs.Order.{levels}
 use Rattle.loop_order.proofs.Greedy.{found_left, start_level, one_more_level, gives_up, whole_choice, made_is}
 use Rattle.loop_order.proofs.choice.greedy.Goals as goal
 

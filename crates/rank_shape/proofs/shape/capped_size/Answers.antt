@@ -1,5 +1,4 @@
 use Rattle.std.proofs.Common.{◌∙◌, arith, ap, min, ◌*◌, ◌-◌, ◌^◌, ◌+◌}
-use Rattle.std.proofs.lemmas.List.{length-map}
 use Rattle.rank_shape.specs.Shape.{naturals}
 use Rattle.rank_shape.proofs.Shapes.{capped_step, length-naturals}
 use Rattle.rank_shape.proofs.shape.capped_size.Goals as goal

@@ -1,4 +1,4 @@
-use Rattle.std.proofs.Common.{ap, ◌∙◌, arith, ◌≡◌, replicate, ◌++◌, take, ◌-◌, false}
+use Rattle.std.proofs.Common.{ap, ◌∙◌, arith, ◌≡◌, replicate, false}
 use Rattle.std.proofs.lemmas.List.{length-set}
 use Rattle.a95_base.specs.Lists.{down_to_one}
 use Rattle.rank_shape.specs.Order.{levels}

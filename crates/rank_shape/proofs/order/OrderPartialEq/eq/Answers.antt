@@ -1,4 +1,4 @@
-use Rattle.std.proofs.Common.{◌≡◌, sym, ap, ◌∙◌, nat_eq, ◌&&◌, arith}
+use Rattle.std.proofs.Common.{ap, ◌∙◌, nat_eq, ◌&&◌, arith}
 use mathlib.Core.Bool.{beq}
 use lib.Pointwise.{pointwise}
 use Rattle.rank_shape.specs.Order.{loops_of, downs_of}

@@ -1,4 +1,4 @@
-use Rattle.std.proofs.Common.{◌≡◌, [], ◌∷◌, ◌+◌, ℤ, List, length, drop, map, pos, sym, ap, ◌∙◌, arith, rules}
+use Rattle.std.proofs.Common.{◌≡◌, [], ◌∷◌, ◌+◌, ℤ, List, length, drop, sym, ap, ◌∙◌, arith, rules}
 use Rattle.rank_shape.specs.declared.shape.Place.{Place}
 use Rattle.rank_shape.specs.Walk.{tour}
 use Rattle.rank_shape.specs.Visits.{visits}
