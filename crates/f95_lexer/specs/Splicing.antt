@@ -91,6 +91,10 @@ abbrev pub line_read : Mode → ℕ → List ℕ → Spliced
 line_read m above [] = ends m
 line_read m above (c ∷ cs) = if c == 33 then ends m else begun m above c cs
 
+-- what stands behind what was read before
+abbrev pub behind : List Character → List Break → Spliced → Spliced
+behind text breaks rest = record { text = text ++ rest.text; breaks = breaks ++ rest.breaks; mode = rest.mode }
+
 -- a line has more than 132 characters
 abbrev pub too_long : ℕ → List ℕ → List Break
 too_long above line = if nat_lt 132 (length line) then broken_at above 3 ∷ [] else []
