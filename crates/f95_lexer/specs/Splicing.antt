@@ -5,6 +5,7 @@ use Rattle.f95_lexer.specs.declared.character.Break.{Break}
 use Rattle.f95_lexer.specs.declared.splice.Mode.{Mode}
 use Rattle.f95_lexer.specs.declared.splice.Mode.TheVariants.{Fresh, Goes, Inside}
 use Rattle.f95_lexer.specs.Characters.{is_blank, is_delimiter}
+use Rattle.f95_lexer.specs.Lines.{lines_of}
 
 -- characters, the rules broken so far, and how the last line ended
 pub record Spliced : Type 0 where
@@ -69,9 +70,13 @@ scan (Some d) above left (c ∷ cs) =
     if c == 38 && is_empty (from_blank cs) then ends (Inside d above left)
     else put c above (scan (kept d c) above left cs)
 
--- a continuation line, behind this many others ahead of the 40th
-abbrev pub counted : ℕ → ℕ → Spliced → Spliced
-counted above left rest = if left == 1 then breaks_rule above 4 rest else rest
+-- a statement has a 40th continuation line
+abbrev pub fortieth : ℕ → ℕ → List Break
+fortieth above left = if left == 1 then broken_at above 4 ∷ [] else []
+
+-- these rules are broken, and then the rest
+abbrev pub all_broken : List Break → Spliced → Spliced
+all_broken breaks rest = record rest { breaks = breaks ++ rest.breaks }
 
 -- A line that begins with c, neither blank nor a comment, after a line that ended so. A continuation line that begins
 -- with `&` goes on right behind it; another one stands apart by a blank, and can't go on with a text.
@@ -79,10 +84,10 @@ abbrev pub begun : Mode → ℕ → ℕ → List ℕ → Spliced
 begun Fresh above c cs =
     if c == 38 then breaks_rule above 6 (if is_comment (from_blank cs) then ends (Goes above 40) else scan None above 40 cs)
     else scan None above 40 (c ∷ cs)
-begun (Goes from left) above c cs = counted above left (
+begun (Goes from left) above c cs = all_broken (fortieth above left) (
     if c == 38 then (if is_comment (from_blank cs) then breaks_rule above 6 (ends (Goes above (left - 1))) else scan None above (left - 1) cs)
     else put 32 above (scan None above (left - 1) (c ∷ cs)))
-begun (Inside d from left) above c cs = counted above left (
+begun (Inside d from left) above c cs = all_broken (fortieth above left) (
     if c == 38 then (if is_empty (from_blank cs) then breaks_rule above 6 (ends (Inside d above (left - 1))) else scan (Some d) above (left - 1) cs)
     else breaks_rule from 6 (close above (scan None above (left - 1) (c ∷ cs))))
 
@@ -114,3 +119,11 @@ abbrev pub unfinished : Mode → List Break
 unfinished Fresh = []
 unfinished (Goes above left) = broken_at above 6 ∷ []
 unfinished (Inside d above left) = broken_at above 6 ∷ []
+
+-- the whole text
+abbrev pub spliced : List ℕ → Spliced
+spliced bytes = splice Fresh 0 (lines_of bytes)
+
+-- the rules that its lines break
+abbrev pub line_breaks : List ℕ → List Break
+line_breaks bytes = (spliced bytes).breaks ++ unfinished (spliced bytes).mode
