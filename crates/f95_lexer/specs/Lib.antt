@@ -1,3 +1,4 @@
 pub mod Characters
 pub mod Lines
 pub mod Splicing
+pub mod Lexeme
