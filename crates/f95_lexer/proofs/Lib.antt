@@ -1,1 +1,2 @@
+mod Capped
 mod Cutting
