@@ -2,3 +2,4 @@ pub mod Characters
 pub mod Lines
 pub mod Splicing
 pub mod Lexeme
+pub mod Statements

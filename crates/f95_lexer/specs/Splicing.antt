@@ -17,22 +17,22 @@ abbrev pub ends : Mode → Spliced
 ends m = record { text = []; breaks = []; mode = m }
 
 abbrev pub character : ℕ → ℕ → Character
-character c above = record { byte = c; above = above }
+character c line = record { byte = c; line = line }
 
 abbrev pub broken_at : ℕ → ℕ → Break
-broken_at above r = record { above = above; rule = r }
+broken_at line r = record { line = line; rule = r }
 
--- the character c on the line with so many lines above it, and then the rest
+-- the character c on that line, and then the rest
 abbrev pub put : ℕ → ℕ → Spliced → Spliced
-put c above rest = record rest { text = character c above ∷ rest.text }
+put c line rest = record rest { text = character c line ∷ rest.text }
 
 -- the end of a statement, and then the rest
 abbrev pub close : ℕ → Spliced → Spliced
-close above rest = put 10 above rest
+close line rest = put 10 line rest
 
 -- rule r is broken on that line, and then the rest
 abbrev pub breaks_rule : ℕ → ℕ → Spliced → Spliced
-breaks_rule above r rest = record rest { breaks = broken_at above r ∷ rest.breaks }
+breaks_rule line r rest = record rest { breaks = broken_at line r ∷ rest.breaks }
 
 -- the characters from the first that is no blank
 abbrev pub from_blank : List ℕ → List ℕ
@@ -59,20 +59,20 @@ kept delimiter c = if c == delimiter then None else Some delimiter
 -- a statement. Behind an `&` that is the last character, but for blanks and outside of texts a comment, the statement goes on.
 -- left: the 40th continuation line of the statement is so many lines ahead, or 0 once it has passed.
 abbrev pub scan : Option ℕ → ℕ → ℕ → List ℕ → Spliced
-scan None above left [] = close above (ends Fresh)
-scan (Some d) above left [] = breaks_rule above 5 (close above (ends Fresh))
-scan None above left (c ∷ cs) =
-    if c == 33 then close above (ends Fresh)
-    else (if c == 59 then close above (scan None above 40 cs)
-    else (if c == 38 && is_comment (from_blank cs) then ends (Goes above left)
-    else put c above (scan (opened c) above left cs)))
-scan (Some d) above left (c ∷ cs) =
-    if c == 38 && is_empty (from_blank cs) then ends (Inside d above left)
-    else put c above (scan (kept d c) above left cs)
+scan None line left [] = close line (ends Fresh)
+scan (Some d) line left [] = breaks_rule line 5 (close line (ends Fresh))
+scan None line left (c ∷ cs) =
+    if c == 33 then close line (ends Fresh)
+    else (if c == 59 then close line (scan None line 40 cs)
+    else (if c == 38 && is_comment (from_blank cs) then ends (Goes line left)
+    else put c line (scan (opened c) line left cs)))
+scan (Some d) line left (c ∷ cs) =
+    if c == 38 && is_empty (from_blank cs) then ends (Inside d line left)
+    else put c line (scan (kept d c) line left cs)
 
 -- a statement has a 40th continuation line
 abbrev pub fortieth : ℕ → ℕ → List Break
-fortieth above left = if left == 1 then broken_at above 4 ∷ [] else []
+fortieth line left = if left == 1 then broken_at line 4 ∷ [] else []
 
 -- these rules are broken, and then the rest
 abbrev pub all_broken : List Break → Spliced → Spliced
@@ -81,20 +81,20 @@ all_broken breaks rest = record rest { breaks = breaks ++ rest.breaks }
 -- A line that begins with c, neither blank nor a comment, after a line that ended so. A continuation line that begins
 -- with `&` goes on right behind it; another one stands apart by a blank, and can't go on with a text.
 abbrev pub begun : Mode → ℕ → ℕ → List ℕ → Spliced
-begun Fresh above c cs =
-    if c == 38 then breaks_rule above 6 (if is_comment (from_blank cs) then ends (Goes above 40) else scan None above 40 cs)
-    else scan None above 40 (c ∷ cs)
-begun (Goes from left) above c cs = all_broken (fortieth above left) (
-    if c == 38 then (if is_comment (from_blank cs) then breaks_rule above 6 (ends (Goes above (left - 1))) else scan None above (left - 1) cs)
-    else put 32 above (scan None above (left - 1) (c ∷ cs)))
-begun (Inside d from left) above c cs = all_broken (fortieth above left) (
-    if c == 38 then (if is_empty (from_blank cs) then breaks_rule above 6 (ends (Inside d above (left - 1))) else scan (Some d) above (left - 1) cs)
-    else breaks_rule from 6 (close above (scan None above (left - 1) (c ∷ cs))))
+begun Fresh line c cs =
+    if c == 38 then breaks_rule line 6 (if is_comment (from_blank cs) then ends (Goes line 40) else scan None line 40 cs)
+    else scan None line 40 (c ∷ cs)
+begun (Goes from left) line c cs = all_broken (fortieth line left) (
+    if c == 38 then (if is_comment (from_blank cs) then breaks_rule line 6 (ends (Goes line (left - 1))) else scan None line (left - 1) cs)
+    else put 32 line (scan None line (left - 1) (c ∷ cs)))
+begun (Inside d from left) line c cs = all_broken (fortieth line left) (
+    if c == 38 then (if is_empty (from_blank cs) then breaks_rule line 6 (ends (Inside d line (left - 1))) else scan (Some d) line (left - 1) cs)
+    else breaks_rule from 6 (close line (scan None line (left - 1) (c ∷ cs))))
 
 -- a line without the blanks at its front: a blank line and a comment are passed over
 abbrev pub line_read : Mode → ℕ → List ℕ → Spliced
-line_read m above [] = ends m
-line_read m above (c ∷ cs) = if c == 33 then ends m else begun m above c cs
+line_read m line [] = ends m
+line_read m line (c ∷ cs) = if c == 33 then ends m else begun m line c cs
 
 -- what stands behind what was read before
 abbrev pub behind : List Character → List Break → Spliced → Spliced
@@ -102,27 +102,27 @@ behind text breaks rest = record { text = text ++ rest.text; breaks = breaks ++ 
 
 -- a line has more than 132 characters
 abbrev pub too_long : ℕ → List ℕ → List Break
-too_long above line = if nat_lt 132 (length line) then broken_at above 3 ∷ [] else []
+too_long line text = if nat_lt 132 (length text) then broken_at line 3 ∷ [] else []
 
 -- one part, and then the rest
 abbrev pub after : List Break → Spliced → Spliced → Spliced
 after breaks first rest = record { text = first.text ++ rest.text; breaks = (breaks ++ first.breaks) ++ rest.breaks; mode = rest.mode }
 
 abbrev pub splice : Mode → ℕ → List (List ℕ) → Spliced
-splice m above [] = ends m
-splice m above (line ∷ lines) =
-    let first = line_read m above (from_blank line) in
-    after (too_long above line) first (splice first.mode (above + 1) lines)
+splice m line [] = ends m
+splice m line (text ∷ texts) =
+    let first = line_read m line (from_blank text) in
+    after (too_long line text) first (splice first.mode (line + 1) texts)
 
 -- a continuation that finds no further line
 abbrev pub unfinished : Mode → List Break
 unfinished Fresh = []
-unfinished (Goes above left) = broken_at above 6 ∷ []
-unfinished (Inside d above left) = broken_at above 6 ∷ []
+unfinished (Goes line left) = broken_at line 6 ∷ []
+unfinished (Inside d line left) = broken_at line 6 ∷ []
 
 -- the whole text
 abbrev pub spliced : List ℕ → Spliced
-spliced bytes = splice Fresh 0 (lines_of bytes)
+spliced bytes = splice Fresh 1 (lines_of bytes)
 
 -- the rules that its lines break
 abbrev pub line_breaks : List ℕ → List Break

@@ -1,17 +1,17 @@
 ghost use Rattle.std.specs.Prelude.{◌≡◌};
 ghost use Rattle.f95_lexer.specs.Characters.{is_blank, is_letter, is_digit, is_name, is_delimiter, lower};
 
-/// A character of a statement, with the number of lines above its own. A line feed ends a statement.
+/// A character of a statement, with its line. A line feed ends a statement.
 #[derive(Clone, Copy)]
 pub struct Character {
     pub byte: u8,
-    pub above: u32,
+    pub line: u32,
 }
 
-/// A rule of refusal that is broken on the line with so many lines above it.
+/// A rule of refusal that is broken on that line.
 #[derive(Clone, Copy)]
 pub struct Break {
-    pub above: u32,
+    pub line: u32,
     pub rule: u8,
 }
 

@@ -59,7 +59,7 @@ fn word(alloc: Global, first: u8, rest: &[Character]) -> Result<Found, AllocErro
 }
 
 /// Whether it is a dotted word without its points.
-fn is_dotted(word: &[u8]) -> bool
+pub fn is_dotted(word: &[u8]) -> bool
     ensures { result ≡ is_dotted word.now }
 {
     is(word, b"eq")

@@ -5,6 +5,7 @@
 #![tactic(auto)]
 
 mod character;
+mod gather;
 mod lexeme;
 mod splice;
 mod token;

@@ -15,9 +15,9 @@ pub enum Mode {
     /// Nothing goes on.
     Fresh,
     /// The statement goes on behind the `&` of that line; its 40th continuation line is `left` lines ahead.
-    Goes { above: u32, left: u8 },
+    Goes { line: u32, left: u8 },
     /// A text with that delimiter goes on.
-    Inside { delimiter: u8, above: u32, left: u8 },
+    Inside { delimiter: u8, line: u32, left: u8 },
 }
 
 /// The characters and the broken rules so far.
@@ -28,33 +28,33 @@ pub struct Splicer {
 }
 
 /// The characters from the first that is no blank.
-fn from_blank(mut line: &[u8]) -> &[u8]
-    ensures { result.now ≡ from_blank line.now }
+fn from_blank(mut text: &[u8]) -> &[u8]
+    ensures { result.now ≡ from_blank text.now }
 {
-    while let [c, rest @ ..] = line {
+    while let [c, rest @ ..] = text {
         if !is_blank(*c) {
             break;
         }
-        line = rest;
+        text = rest;
     }
-    line
+    text
 }
 
 /// Whether nothing but blanks and a comment stands there.
-fn is_comment(line: &[u8]) -> bool
-    ensures { result ≡ is_comment (from_blank line.now) }
+fn is_comment(text: &[u8]) -> bool
+    ensures { result ≡ is_comment (from_blank text.now) }
 {
-    match from_blank(line) {
+    match from_blank(text) {
         [] => true,
         [c, ..] => *c == b'!',
     }
 }
 
 /// Whether nothing but blanks stands there.
-fn is_empty(line: &[u8]) -> bool
-    ensures { result ≡ is_empty (from_blank line.now) }
+fn is_empty(text: &[u8]) -> bool
+    ensures { result ≡ is_empty (from_blank text.now) }
 {
-    from_blank(line).is_empty()
+    from_blank(text).is_empty()
 }
 
 fn opened(c: u8) -> Option<u8>
@@ -74,48 +74,48 @@ fn kept(delimiter: u8, c: u8) -> Option<u8>
 }
 
 impl Splicer {
-    fn put(&mut self, byte: u8, above: u32) -> Result<(), AllocError>
-        ensures text { OnOk result (self.new.text.items ≡ self.old.text.items ++ character byte above ∷ []) }
+    fn put(&mut self, byte: u8, line: u32) -> Result<(), AllocError>
+        ensures text { OnOk result (self.new.text.items ≡ self.old.text.items ++ character byte line ∷ []) }
         ensures breaks { self.new.breaks.items ≡ self.old.breaks.items }
     {
-        self.text.push(Character { byte, above })?;
+        self.text.push(Character { byte, line })?;
         Ok(())
     }
 
-    fn note(&mut self, above: u32, rule: u8) -> Result<(), AllocError>
-        ensures breaks { OnOk result (self.new.breaks.items ≡ self.old.breaks.items ++ broken_at above rule ∷ []) }
+    fn note(&mut self, line: u32, rule: u8) -> Result<(), AllocError>
+        ensures breaks { OnOk result (self.new.breaks.items ≡ self.old.breaks.items ++ broken_at line rule ∷ []) }
         ensures text { self.new.text.items ≡ self.old.text.items }
     {
-        self.breaks.push(Break { above, rule })?;
+        self.breaks.push(Break { line, rule })?;
         Ok(())
     }
 
     fn scan(
         &mut self,
         mut inside: Option<u8>,
-        above: u32,
+        line: u32,
         mut left: u8,
-        line: &[u8],
+        text: &[u8],
     ) -> Result<Mode, AllocError>
-        ensures { IfOk result (λ m. behind self.old.text.items self.old.breaks.items (scan inside above left line.now)
+        ensures { IfOk result (λ m. behind self.old.text.items self.old.breaks.items (scan inside line left text.now)
             ≡ record { text = self.new.text.items; breaks = self.new.breaks.items; mode = m }) }
     {
-        let mut rest = line;
+        let mut rest = text;
         while let [c, more @ ..] = rest {
             match inside {
                 None => {
                     if *c == b'!' {
-                        self.put(b'\n', above)?;
+                        self.put(b'\n', line)?;
                         return Ok(Mode::Fresh);
                     }
                     if *c == b'&' && is_comment(more) {
-                        return Ok(Mode::Goes { above, left });
+                        return Ok(Mode::Goes { line, left });
                     }
                     if *c == b';' {
-                        self.put(b'\n', above)?;
+                        self.put(b'\n', line)?;
                         left = CONTINUATIONS;
                     } else {
-                        self.put(*c, above)?;
+                        self.put(*c, line)?;
                         inside = opened(*c);
                     }
                 }
@@ -123,50 +123,50 @@ impl Splicer {
                     if *c == b'&' && is_empty(more) {
                         return Ok(Mode::Inside {
                             delimiter,
-                            above,
+                            line,
                             left,
                         });
                     }
-                    self.put(*c, above)?;
+                    self.put(*c, line)?;
                     inside = kept(delimiter, *c);
                 }
             }
             rest = more;
         }
         if inside.is_some() {
-            self.note(above, 5)?;
+            self.note(line, 5)?;
         }
-        self.put(b'\n', above)?;
+        self.put(b'\n', line)?;
         Ok(Mode::Fresh)
     }
 
     /// A line when nothing goes on.
-    fn fresh(&mut self, above: u32, first: u8, rest: &[u8], line: &[u8]) -> Result<Mode, AllocError>
-        requires { line.now ≡ first ∷ rest.now }
-        ensures { IfOk result (λ m. behind self.old.text.items self.old.breaks.items (begun Mode.Fresh above first rest.now)
+    fn fresh(&mut self, line: u32, first: u8, rest: &[u8], text: &[u8]) -> Result<Mode, AllocError>
+        requires { text.now ≡ first ∷ rest.now }
+        ensures { IfOk result (λ m. behind self.old.text.items self.old.breaks.items (begun Mode.Fresh line first rest.now)
             ≡ record { text = self.new.text.items; breaks = self.new.breaks.items; mode = m }) }
     {
         if first != b'&' {
-            return self.scan(None, above, CONTINUATIONS, line);
+            return self.scan(None, line, CONTINUATIONS, text);
         }
-        self.note(above, 6)?;
+        self.note(line, 6)?;
         if is_comment(rest) {
             return Ok(Mode::Goes {
-                above,
+                line,
                 left: CONTINUATIONS,
             });
         }
-        self.scan(None, above, CONTINUATIONS, rest)
+        self.scan(None, line, CONTINUATIONS, rest)
     }
 
     /// Notes the 40th continuation line, and says how many lines ahead it is from the next.
-    fn counted(&mut self, above: u32, left: u8) -> Result<u8, AllocError>
+    fn counted(&mut self, line: u32, left: u8) -> Result<u8, AllocError>
         ensures left { IfOk result (λ next. next ≡ left - 1) }
-        ensures breaks { OnOk result (self.new.breaks.items ≡ self.old.breaks.items ++ fortieth above left) }
+        ensures breaks { OnOk result (self.new.breaks.items ≡ self.old.breaks.items ++ fortieth line left) }
         ensures text { self.new.text.items ≡ self.old.text.items }
     {
         if left == 1 {
-            self.note(above, 4)?;
+            self.note(line, 4)?;
         }
         Ok(left.saturating_sub(1))
     }
@@ -175,26 +175,26 @@ impl Splicer {
     fn goes(
         &mut self,
         from: u32,
-        above: u32,
+        line: u32,
         left: u8,
         first: u8,
         rest: &[u8],
-        line: &[u8],
+        text: &[u8],
     ) -> Result<Mode, AllocError>
-        requires { line.now ≡ first ∷ rest.now }
-        ensures { IfOk result (λ m. behind self.old.text.items self.old.breaks.items (begun (Mode.Goes from left) above first rest.now)
+        requires { text.now ≡ first ∷ rest.now }
+        ensures { IfOk result (λ m. behind self.old.text.items self.old.breaks.items (begun (Mode.Goes from left) line first rest.now)
             ≡ record { text = self.new.text.items; breaks = self.new.breaks.items; mode = m }) }
     {
-        let left = self.counted(above, left)?;
+        let left = self.counted(line, left)?;
         if first != b'&' {
-            self.put(b' ', above)?;
-            return self.scan(None, above, left, line);
+            self.put(b' ', line)?;
+            return self.scan(None, line, left, text);
         }
         if is_comment(rest) {
-            self.note(above, 6)?;
-            return Ok(Mode::Goes { above, left });
+            self.note(line, 6)?;
+            return Ok(Mode::Goes { line, left });
         }
-        self.scan(None, above, left, rest)
+        self.scan(None, line, left, rest)
     }
 
     /// A line on which a text goes on that the line `from` left open.
@@ -202,40 +202,40 @@ impl Splicer {
         &mut self,
         delimiter: u8,
         from: u32,
-        above: u32,
+        line: u32,
         left: u8,
         first: u8,
         rest: &[u8],
-        line: &[u8],
+        text: &[u8],
     ) -> Result<Mode, AllocError>
-        requires { line.now ≡ first ∷ rest.now }
-        ensures { IfOk result (λ m. behind self.old.text.items self.old.breaks.items (begun (Mode.Inside delimiter from left) above first rest.now)
+        requires { text.now ≡ first ∷ rest.now }
+        ensures { IfOk result (λ m. behind self.old.text.items self.old.breaks.items (begun (Mode.Inside delimiter from left) line first rest.now)
             ≡ record { text = self.new.text.items; breaks = self.new.breaks.items; mode = m }) }
     {
-        let left = self.counted(above, left)?;
+        let left = self.counted(line, left)?;
         if first != b'&' {
             self.note(from, 6)?;
-            self.put(b'\n', above)?;
-            return self.scan(None, above, left, line);
+            self.put(b'\n', line)?;
+            return self.scan(None, line, left, text);
         }
         if is_empty(rest) {
-            self.note(above, 6)?;
+            self.note(line, 6)?;
             return Ok(Mode::Inside {
                 delimiter,
-                above,
+                line,
                 left,
             });
         }
-        self.scan(Some(delimiter), above, left, rest)
+        self.scan(Some(delimiter), line, left, rest)
     }
 
     /// Notes a line of more than 132 characters.
-    fn measured(&mut self, above: u32, line: &[u8]) -> Result<(), AllocError>
-        ensures breaks { OnOk result (self.new.breaks.items ≡ self.old.breaks.items ++ too_long above line.now) }
+    fn measured(&mut self, line: u32, text: &[u8]) -> Result<(), AllocError>
+        ensures breaks { OnOk result (self.new.breaks.items ≡ self.old.breaks.items ++ too_long line text.now) }
         ensures text { self.new.text.items ≡ self.old.text.items }
     {
-        if line.len() > 132 {
-            self.note(above, 3)?;
+        if text.len() > 132 {
+            self.note(line, 3)?;
         }
         Ok(())
     }
@@ -247,29 +247,29 @@ impl Splicer {
     {
         match mode {
             Mode::Fresh => Ok(()),
-            Mode::Goes { above, .. } | Mode::Inside { above, .. } => self.note(above, 6),
+            Mode::Goes { line, .. } | Mode::Inside { line, .. } => self.note(line, 6),
         }
     }
 
     /// The next line, without the blanks at its front.
-    fn line(&mut self, mode: Mode, above: u32, line: &[u8]) -> Result<Mode, AllocError>
-        ensures { IfOk result (λ m. behind self.old.text.items self.old.breaks.items (line_read mode above line.now)
+    fn read_line(&mut self, mode: Mode, line: u32, text: &[u8]) -> Result<Mode, AllocError>
+        ensures { IfOk result (λ m. behind self.old.text.items self.old.breaks.items (line_read mode line text.now)
             ≡ record { text = self.new.text.items; breaks = self.new.breaks.items; mode = m }) }
     {
-        let [first, rest @ ..] = line else {
+        let [first, rest @ ..] = text else {
             return Ok(mode);
         };
         if *first == b'!' {
             return Ok(mode);
         }
         match mode {
-            Mode::Fresh => self.fresh(above, *first, rest, line),
-            Mode::Goes { above: from, left } => self.goes(from, above, left, *first, rest, line),
+            Mode::Fresh => self.fresh(line, *first, rest, text),
+            Mode::Goes { line: from, left } => self.goes(from, line, left, *first, rest, text),
             Mode::Inside {
                 delimiter,
-                above: from,
+                line: from,
                 left,
-            } => self.inside(delimiter, from, above, left, *first, rest, line),
+            } => self.inside(delimiter, from, line, left, *first, rest, text),
         }
     }
 }
@@ -285,7 +285,7 @@ fn lines_of(bytes: &[u8]) -> Lines<'_>
 
 /// The lines of a text spliced, with the rules that they break.
 pub fn splice(alloc: Global, bytes: &[u8]) -> Result<Splicer, AllocError>
-    requires { length bytes.now < 2 ^ 32 - 1 }
+    requires { length bytes.now ≤ 1048576 }
     ensures text { IfOk result (λ s. s.text.items ≡ (spliced bytes.now).text) }
     ensures breaks { IfOk result (λ s. s.breaks.items ≡ line_breaks bytes.now) }
 {
@@ -294,11 +294,11 @@ pub fn splice(alloc: Global, bytes: &[u8]) -> Result<Splicer, AllocError>
         breaks: Vec::new(alloc),
     };
     let mut mode = Mode::Fresh;
-    let mut above = 0u32;
-    for line in lines_of(bytes) {
-        splicer.measured(above, line)?;
-        mode = splicer.line(mode, above, from_blank(line))?;
-        above += 1;
+    let mut line = 1u32;
+    for text in lines_of(bytes) {
+        splicer.measured(line, text)?;
+        mode = splicer.read_line(mode, line, from_blank(text))?;
+        line += 1;
     }
     splicer.finished(mode)?;
     Ok(splicer)
