@@ -1,2 +1,3 @@
 mod Capped
 mod Cutting
+mod Gathering

@@ -94,6 +94,9 @@ pub record Reading : Type 0 where
   pub line : ℕ
   pub tokens : List Token
 
+abbrev pub reading : List Statement → ℕ → List Token → Reading
+reading list line tokens = record { list = list; line = line; tokens = tokens }
+
 abbrev pub first_line : ℕ → List Token → ℕ → ℕ
 first_line old [] line = line
 first_line old (t ∷ ts) line = old
