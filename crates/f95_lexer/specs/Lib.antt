@@ -3,3 +3,4 @@ pub mod Lines
 pub mod Splicing
 pub mod Lexeme
 pub mod Statements
+pub mod Rules

@@ -7,6 +7,7 @@
 mod character;
 mod gather;
 mod lexeme;
+mod read;
 mod splice;
 mod token;
 
