@@ -1,3 +1,4 @@
 mod Capped
 mod Cutting
+mod First
 mod Gathering
