@@ -2,3 +2,5 @@ mod Capped
 mod Cutting
 mod First
 mod Gathering
+mod InLines
+mod Members
