@@ -25,11 +25,13 @@ same : (a : Break) → Before a a
 same a = record { order = inr (refl, omega arith) }
 
 chained : (a b c : Break) → Before a b → Before b c → Before a c
-chained a b c x y = record { order = ⊎_elim
-    (λ (h : a.line < b.line). ⊎_elim (λ (k : b.line < c.line). inl (omega arith)) (λ (k : (b.line ≡ c.line) × (b.rule ≤ c.rule)). inl (omega (arith, k.0))) y.order)
-    (λ (h : (a.line ≡ b.line) × (a.rule ≤ b.rule)). ⊎_elim (λ (k : b.line < c.line). inl (omega (arith, h.0)))
-        (λ (k : (b.line ≡ c.line) × (b.rule ≤ c.rule)). inr (h.0 ∙ k.0, omega (arith, h.1, k.1))) y.order)
-    x.order }
+chained a b c x y = record {
+  order = ⊎_elim
+      (λ (h : a.line < b.line). ⊎_elim (λ (k : b.line < c.line). inl (omega arith)) (λ (k : (b.line ≡ c.line) × (b.rule ≤ c.rule)). inl (omega (arith, k.0))) y.order)
+      (λ (h : (a.line ≡ b.line) × (a.rule ≤ b.rule)). ⊎_elim (λ (k : b.line < c.line). inl (omega (arith, h.0)))
+      (λ (k : (b.line ≡ c.line) × (b.rule ≤ c.rule)). inr (h.0 ∙ k.0, omega (arith, h.1, k.1))) y.order)
+      x.order;
+}
 
 -- b is one of them, and comes before each
 pub record IsFirst (b : Break) (bs : List Break) : Type 0 where
@@ -40,20 +42,23 @@ by_test : (b c f : Break) (cs : List Break) (t : Bool) → comes_first b c ≡ t
 by_test b c f cs true e h = record {
   among = ⊎_elim (λ (x : f ≡ b). inl x) (λ (x : Has f cs). inr (inr x)) h.among;
   before = λ d. λ w. ⊎_elim
-    (λ (x : d ≡ b). subst (λ z. Before f z) (sym x) (h.before b (inl refl)))
-    (⊎_elim (λ (x : d ≡ c). subst (λ z. Before f z) (sym x) (chained f b c (h.before b (inl refl)) (record { order = first_said b.line c.line b.rule c.rule e })))
-        (λ (x : Has d cs). h.before d (inr x))) w }
+      (λ (x : d ≡ b). subst (λ z. Before f z) (sym x) (h.before b (inl refl)))
+      (⊎_elim (λ (x : d ≡ c). subst (λ z. Before f z) (sym x) (chained f b c (h.before b (inl refl)) (record { order = first_said b.line c.line b.rule c.rule e })))
+      (λ (x : Has d cs). h.before d (inr x))) w;
+}
 by_test b c f cs false e h = record {
   among = ⊎_elim (λ (x : f ≡ c). inr (inl x)) (λ (x : Has f cs). inr (inr x)) h.among;
   before = λ d. λ w. ⊎_elim
-    (λ (x : d ≡ b). subst (λ z. Before f z) (sym x) (chained f c b (h.before c (inl refl)) (record { order = second_said b.line c.line b.rule c.rule e })))
-    (⊎_elim (λ (x : d ≡ c). subst (λ z. Before f z) (sym x) (h.before c (inl refl)))
-        (λ (x : Has d cs). h.before d (inr x))) w }
+      (λ (x : d ≡ b). subst (λ z. Before f z) (sym x) (chained f c b (h.before c (inl refl)) (record { order = second_said b.line c.line b.rule c.rule e })))
+      (⊎_elim (λ (x : d ≡ c). subst (λ z. Before f z) (sym x) (h.before c (inl refl)))
+      (λ (x : Has d cs). h.before d (inr x))) w;
+}
 
 first_from_is : (b : Break) (bs : List Break) → IsFirst (first_from b bs) (b ∷ bs)
 first_from_is b [] = record {
   among = inl refl;
-  before = λ d. λ w. ⊎_elim (λ (x : d ≡ b). subst (λ z. Before b z) (sym x) (same b)) (λ (x : ⊥). absurd x) w }
+  before = λ d. λ w. ⊎_elim (λ (x : d ≡ b). subst (λ z. Before b z) (sym x) (same b)) (λ (x : ⊥). absurd x) w;
+}
 first_from_is b (c ∷ cs) = by_test b c (first_from b (c ∷ cs)) cs (comes_first b c) refl (first_from_is (cond (comes_first b c) b c) cs)
 
 pub first_of_is : (bs : List Break) (f : Break) → first_of bs ≡ Some f → IsFirst f bs

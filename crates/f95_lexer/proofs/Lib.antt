@@ -3,4 +3,5 @@ mod Cutting
 mod First
 mod Gathering
 mod InLines
+mod Judging
 mod Members

@@ -20,13 +20,16 @@ pub record Numbered : Type 0 where
   pub line : ℕ
   pub text : List ℕ
 
+abbrev pub numbered : ℕ → List ℕ → Numbered
+numbered line text = record { line = line; text = text }
+
 abbrev pub numbered_from : ℕ → List (List ℕ) → List Numbered
 numbered_from n [] = []
-numbered_from n (text ∷ texts) = (record { line = n; text = text }) ∷ numbered_from (n + 1) texts
+numbered_from n (text ∷ texts) = numbered n text ∷ numbered_from (n + 1) texts
 
 -- this is that line of the text
 abbrev pub IsLine : List ℕ → ℕ → List ℕ → Type 0
-IsLine bytes line text = Has (record { line = line; text = text }) (numbered_from 1 (lines_of bytes))
+IsLine bytes line text = Has (numbered line text) (numbered_from 1 (lines_of bytes))
 
 -- this begins on that line
 abbrev pub Stands : List ℕ → ℕ → Lexeme → Type 0

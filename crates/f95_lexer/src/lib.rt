@@ -11,4 +11,5 @@ mod read;
 mod splice;
 mod token;
 
+pub use read::read_statements;
 pub use token::{Mark, Statement, Statements, Token};
