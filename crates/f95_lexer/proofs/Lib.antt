@@ -1,6 +1,7 @@
 mod Capped
 mod Cutting
 mod First
+mod Gaps
 mod Gathering
 mod InLines
 mod Judging

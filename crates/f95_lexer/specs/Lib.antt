@@ -4,3 +4,4 @@ pub mod Splicing
 pub mod Lexeme
 pub mod Statements
 pub mod Rules
+pub mod Spelling

@@ -13,3 +13,6 @@ mod token;
 
 pub use read::read_statements;
 pub use token::{Mark, Statement, Statements, Token};
+
+#[cfg(test)]
+mod tests;
