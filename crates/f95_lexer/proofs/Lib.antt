@@ -1,8 +1,10 @@
 mod Capped
 mod Cutting
 mod First
-mod Gaps
 mod Gathering
 mod InLines
 mod Judging
 mod Members
+mod Spellings
+mod Unwritten
+mod Written

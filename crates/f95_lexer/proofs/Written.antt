@@ -8,13 +8,13 @@ use Rattle.f95_lexer.specs.declared.lexeme.Lexeme.TheVariants as lexeme
 use Rattle.f95_lexer.specs.declared.token.Mark.{Mark}
 use Rattle.f95_lexer.specs.declared.token.Mark.TheVariants as mark
 use Rattle.f95_lexer.specs.Characters.{is_blank, is_letter, is_digit, is_name, is_delimiter, lower}
-use Rattle.f95_lexer.specs.Lexeme.{bytes_of, front, behind_front, is_nil, begins_with, found, found_at, word_at, word_to_point, pointed, value_from, integer, clings, taken, begins_dotted, is_dotted, number_at, Literal, literal, one_more, holds, ended, text_at, text_lexeme, symbol_at, symbol_of_one, symbol_of_two}
+use Rattle.f95_lexer.specs.Lexeme.{bytes_of, front, behind_front, is_nil, begins_with, found, found_at, word_at, word_to_point, pointed, value_from, integer, clings, taken, begins_dotted, is_dotted, number_at, Literal, literal, one_more, holds, ended, text_at, text_lexeme, symbol_at, symbol_of_one, symbol_of_two, longer_or}
 use Rattle.f95_lexer.specs.Spelling.{AllPass, begins, SpellsWord, SpellsNumber, SpellsText, SpellsDotted, SpellsMark, doubled, is_inside, symbol_text}
 
-skip : {A : Type 0} (b : Bool) (x y z : A) → b ≡ false → y ≡ z → cond b x y ≡ z
+pub skip : {A : Type 0} (b : Bool) (x y z : A) → b ≡ false → y ≡ z → cond b x y ≡ z
 skip b x y z no_test e = ap (λ t. cond t x y) no_test ∙ e
 
-stay : {A : Type 0} (b : Bool) (x y : A) → b ≡ true → cond b x y ≡ x
+pub stay : {A : Type 0} (b : Bool) (x y : A) → b ≡ true → cond b x y ≡ x
 stay b x y test = ap (λ t. cond t x y) test
 
 letter_found : (c : ℕ) (cs : List ℕ) → is_letter c ≡ true → found_at c cs ≡ word_at c cs
@@ -62,7 +62,7 @@ no_taking false false true None e = cc
 no_taking false false true (Some w) e = refl
 
 -- what is followed by nothing that clings takes nothing with it
-taken_none : (rest : List ℕ) → clings rest ≡ false → taken rest ≡ 0
+pub taken_none : (rest : List ℕ) → clings rest ≡ false → taken rest ≡ 0
 taken_none [] apart = refl
 taken_none (c ∷ cs) apart = ap (λ t. cond t 1 0) (no_taking (is_letter c) (c == 95) (c == 46) (word_to_point cs) apart)
 
@@ -94,7 +94,7 @@ not_true : (b : Bool) → not b ≡ true → b ≡ false
 not_true true e = cc
 not_true false e = refl
 
-same_one : (d : ℕ) → d == d ≡ true
+pub same_one : (d : ℕ) → d == d ≡ true
 same_one d = grind (arith, nat_tests)
 
 -- right behind a delimiter that isn't doubled
@@ -151,3 +151,72 @@ dotted_found letters rest all word =
     ap (λ l. pointed (word_to_point l)) (append_assoc letters (46 ∷ []) rest)
     ∙ ap pointed (pointed_is letters rest all word)
     ∙ ap (λ n. found (lexeme.Pointed (map lower letters)) n) count
+
+-- Symbols.
+
+-- the symbol, where no longer one begins, is found
+pub record IsFound (l : Lexeme) (written rest : List ℕ) : Type 0 where
+  pub first : ℕ
+  pub more : List ℕ
+  pub is : written ≡ first ∷ more
+  pub found_there : found_at first (more ++ rest) ≡ found l (length more)
+
+abbrev pub IsLongest : Mark → List ℕ → Type 0
+IsLongest m rest = (other : Mark) (more : List ℕ) → symbol_text m ++ rest ≡ symbol_text other ++ more → length (symbol_text other) ≤ length (symbol_text m)
+
+no_longer : (m other : Mark) (c e d : ℕ) (ds : List ℕ) (b : Bool) → d == e ≡ b → symbol_text m ≡ c ∷ [] → symbol_text other ≡ c ∷ e ∷ [] → IsLongest m (d ∷ ds) → d == e ≡ false
+no_longer m other c e d ds false test one two longest = test
+no_longer m other c e d ds true test one two longest =
+    let same : d ≡ e = grind (arith, nat_tests) in
+    let begun : symbol_text m ++ (d ∷ ds) ≡ symbol_text other ++ ds =
+        ap (λ s. s ++ (d ∷ ds)) one ∙ ap (λ x. c ∷ x ∷ ds) same ∙ sym (ap (λ s. s ++ ds) two) in
+    absurd (omega (arith, longest other ds begun, ap length one, ap length two))
+
+alone : (m : Mark) (c : ℕ) (rest : List ℕ) → symbol_text m ≡ c ∷ [] → found_at c rest ≡ found (lexeme.Symbol m) 0 → IsFound (lexeme.Symbol m) (symbol_text m) rest
+alone m c rest text at = record { first = c; more = []; is = text; found_there = at }
+
+in_pair : (m : Mark) (c e : ℕ) (rest : List ℕ) → symbol_text m ≡ c ∷ e ∷ [] → found_at c (e ∷ rest) ≡ found (lexeme.Symbol m) 1 → IsFound (lexeme.Symbol m) (symbol_text m) rest
+in_pair m c e rest text at = record { first = c; more = e ∷ []; is = text; found_there = at }
+
+-- a symbol of one character that one other character makes longer
+once : (m other : Mark) (c e : ℕ) (rest : List ℕ) → symbol_text m ≡ c ∷ [] → symbol_text other ≡ c ∷ e ∷ [] → IsLongest m rest
+    → found_at c [] ≡ found (lexeme.Symbol m) 0 → ((d : ℕ) (ds : List ℕ) → d == e ≡ false → found_at c (d ∷ ds) ≡ found (lexeme.Symbol m) 0)
+    → IsFound (lexeme.Symbol m) (symbol_text m) rest
+once m other c e [] one two longest at_end before = alone m c [] one at_end
+once m other c e (d ∷ ds) one two longest at_end before = alone m c (d ∷ ds) one (before d ds (no_longer m other c e d ds (d == e) refl one two longest))
+
+slash_found : (rest : List ℕ) → IsLongest mark.Slash rest → IsFound (lexeme.Symbol mark.Slash) (symbol_text mark.Slash) rest
+slash_found [] longest = alone mark.Slash 47 [] refl refl
+slash_found (d ∷ ds) longest =
+    let array : d == 41 ≡ false = no_longer mark.Slash mark.CloseArray 47 41 d ds (d == 41) refl refl refl longest in
+    let unequal : d == 61 ≡ false = no_longer mark.Slash mark.NotEqual 47 61 d ds (d == 61) refl refl refl longest in
+    let joined : d == 47 ≡ false = no_longer mark.Slash mark.Concat 47 47 d ds (d == 47) refl refl refl longest in
+    alone mark.Slash 47 (d ∷ ds) refl (ap (λ o. longer_or o (Some mark.Slash))
+    (skip (d == 41) (Some mark.CloseArray) _ None array (skip (d == 61) (Some mark.NotEqual) _ None unequal (skip (d == 47) (Some mark.Concat) None None joined refl))))
+
+simple_found : (m : Mark) (c : ℕ) (rest : List ℕ) → symbol_text m ≡ c ∷ [] → found_at c [] ≡ found (lexeme.Symbol m) 0 → ((d : ℕ) (ds : List ℕ) → found_at c (d ∷ ds) ≡ found (lexeme.Symbol m) 0)
+    → IsFound (lexeme.Symbol m) (symbol_text m) rest
+simple_found m c [] text at_end before = alone m c [] text at_end
+simple_found m c (d ∷ ds) text at_end before = alone m c (d ∷ ds) text (before d ds)
+
+pub mark_found : (m : Mark) (rest : List ℕ) → IsLongest m rest → IsFound (lexeme.Symbol m) (symbol_text m) rest
+mark_found mark.Open rest longest = once mark.Open mark.OpenArray 40 47 rest refl refl longest refl (λ d. λ ds. λ e. ap (λ t. longer_or (cond t (Some mark.OpenArray) None) (Some mark.Open)) e)
+mark_found mark.Close rest longest = simple_found mark.Close 41 rest refl refl (λ d. λ ds. refl)
+mark_found mark.OpenArray rest longest = in_pair mark.OpenArray 40 47 rest refl refl
+mark_found mark.CloseArray rest longest = in_pair mark.CloseArray 47 41 rest refl refl
+mark_found mark.Comma rest longest = simple_found mark.Comma 44 rest refl refl (λ d. λ ds. refl)
+mark_found mark.Colon rest longest = once mark.Colon mark.DoubleColon 58 58 rest refl refl longest refl (λ d. λ ds. λ e. ap (λ t. longer_or (cond t (Some mark.DoubleColon) None) (Some mark.Colon)) e)
+mark_found mark.DoubleColon rest longest = in_pair mark.DoubleColon 58 58 rest refl refl
+mark_found mark.Assign rest longest = once mark.Assign mark.Equal 61 61 rest refl refl longest refl (λ d. λ ds. λ e. ap (λ t. longer_or (cond t (Some mark.Equal) None) (Some mark.Assign)) e)
+mark_found mark.Equal rest longest = in_pair mark.Equal 61 61 rest refl refl
+mark_found mark.NotEqual rest longest = in_pair mark.NotEqual 47 61 rest refl refl
+mark_found mark.Less rest longest = once mark.Less mark.LessEqual 60 61 rest refl refl longest refl (λ d. λ ds. λ e. ap (λ t. longer_or (cond t (Some mark.LessEqual) None) (Some mark.Less)) e)
+mark_found mark.LessEqual rest longest = in_pair mark.LessEqual 60 61 rest refl refl
+mark_found mark.Greater rest longest = once mark.Greater mark.GreaterEqual 62 61 rest refl refl longest refl (λ d. λ ds. λ e. ap (λ t. longer_or (cond t (Some mark.GreaterEqual) None) (Some mark.Greater)) e)
+mark_found mark.GreaterEqual rest longest = in_pair mark.GreaterEqual 62 61 rest refl refl
+mark_found mark.Plus rest longest = simple_found mark.Plus 43 rest refl refl (λ d. λ ds. refl)
+mark_found mark.Minus rest longest = simple_found mark.Minus 45 rest refl refl (λ d. λ ds. refl)
+mark_found mark.Star rest longest = once mark.Star mark.Power 42 42 rest refl refl longest refl (λ d. λ ds. λ e. ap (λ t. longer_or (cond t (Some mark.Power) None) (Some mark.Star)) e)
+mark_found mark.Power rest longest = in_pair mark.Power 42 42 rest refl refl
+mark_found mark.Slash rest longest = slash_found rest longest
+mark_found mark.Concat rest longest = in_pair mark.Concat 47 47 rest refl refl
