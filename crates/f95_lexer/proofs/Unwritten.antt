@@ -1,7 +1,7 @@
 -- What is found without a broken rule is written there as a token, the longest that begins there.
 use Rattle.std.proofs.Common.{◌≡◌, ℕ, ℤ, pos, zero, suc, ◌+◌, ◌-◌, ◌*◌, ◌<◌, ◌≤◌, Bool, true, false, ◌&&◌, ◌||◌, ◌==◌, not, nat_lt, nat_le, cond, List, [], ◌∷◌, ◌++◌, length, map, take, drop, Option, Some, None, refl, sym, ap, ◌∙◌, subst, arith}
 use Rattle.std.proofs.lemmas.Bool.Decides.{nat_tests}
-use Rattle.std.proofs.lemmas.List.{length_push, length-map, take_at, drop_at, append_assoc}
+use Rattle.std.proofs.lemmas.List.{length_push, length-map, length-append, take_at, drop_at, append_assoc}
 use Rattle.f95_lexer.specs.declared.lexeme.Lexeme.{Lexeme}
 use Rattle.f95_lexer.specs.declared.lexeme.Lexeme.TheVariants as lexeme
 use Rattle.f95_lexer.specs.declared.lexeme.Found.{Found}
@@ -218,3 +218,114 @@ dotted_cases cs true test = record { good = λ rules.
 
 point_good : (cs : List ℕ) → IsGood 46 cs (pointed (word_to_point cs))
 point_good cs = dotted_cases cs (not (is_nil (front is_letter cs)) && begins_with 46 (behind_front is_letter cs)) refl
+
+-- Symbols.
+
+row : (b : Bool) (a : Mark) (y : Option Mark) (m : Mark) (text : List ℕ) → cond b (Some a) y ≡ Some m → (b ≡ true → symbol_text a ≡ text) → (y ≡ Some m → symbol_text m ≡ text) → symbol_text m ≡ text
+row true a y m text e f g = let same : a ≡ m = cc in subst (λ x. symbol_text x ≡ text) same (f refl)
+row false a y m text e f g = g e
+
+pair : (x y c d : ℕ) → c == x && d == y ≡ true → x ∷ y ∷ [] ≡ c ∷ d ∷ []
+pair x y c d e = let first : x ≡ c = grind (arith, nat_tests) in let other : y ≡ d = grind (arith, nat_tests) in ap (λ z. z ∷ y ∷ []) first ∙ ap (λ z. c ∷ z ∷ []) other
+
+one : (x c : ℕ) → c == x ≡ true → x ∷ [] ≡ c ∷ []
+one x c e = let first : x ≡ c = grind (arith, nat_tests) in ap (λ z. z ∷ []) first
+
+two_back : (c d : ℕ) (m : Mark) → symbol_of_two c d ≡ Some m → symbol_text m ≡ c ∷ d ∷ []
+two_back c d m e0 =
+    row (c == 40 && d == 47) mark.OpenArray _ m _ e0 (pair 40 47 c d)
+    (λ e1. row (c == 47 && d == 41) mark.CloseArray _ m _ e1 (pair 47 41 c d)
+    (λ e2. row (c == 58 && d == 58) mark.DoubleColon _ m _ e2 (pair 58 58 c d)
+    (λ e3. row (c == 61 && d == 61) mark.Equal _ m _ e3 (pair 61 61 c d)
+    (λ e4. row (c == 47 && d == 61) mark.NotEqual _ m _ e4 (pair 47 61 c d)
+    (λ e5. row (c == 60 && d == 61) mark.LessEqual _ m _ e5 (pair 60 61 c d)
+    (λ e6. row (c == 62 && d == 61) mark.GreaterEqual _ m _ e6 (pair 62 61 c d)
+    (λ e7. row (c == 42 && d == 42) mark.Power _ m _ e7 (pair 42 42 c d)
+    (λ e8. row (c == 47 && d == 47) mark.Concat _ m _ e8 (pair 47 47 c d)
+    (λ e9. cc)))))))))
+
+one_back : (c : ℕ) (m : Mark) → symbol_of_one c ≡ Some m → symbol_text m ≡ c ∷ []
+one_back c m e0 =
+    row (c == 40) mark.Open _ m _ e0 (one 40 c)
+    (λ e1. row (c == 41) mark.Close _ m _ e1 (one 41 c)
+    (λ e2. row (c == 44) mark.Comma _ m _ e2 (one 44 c)
+    (λ e3. row (c == 58) mark.Colon _ m _ e3 (one 58 c)
+    (λ e4. row (c == 61) mark.Assign _ m _ e4 (one 61 c)
+    (λ e5. row (c == 60) mark.Less _ m _ e5 (one 60 c)
+    (λ e6. row (c == 62) mark.Greater _ m _ e6 (one 62 c)
+    (λ e7. row (c == 43) mark.Plus _ m _ e7 (one 43 c)
+    (λ e8. row (c == 45) mark.Minus _ m _ e8 (one 45 c)
+    (λ e9. row (c == 42) mark.Star _ m _ e9 (one 42 c)
+    (λ e10. row (c == 47) mark.Slash _ m _ e10 (one 47 c)
+    (λ e11. cc)))))))))))
+
+-- a symbol has one character, or two that are found as it
+data Size (m : Mark) : Type 0 where
+  small : length (symbol_text m) ≡ 1 → Size m
+  large : (x y : ℕ) → symbol_text m ≡ x ∷ y ∷ [] → symbol_of_two x y ≡ Some m → Size m
+
+size_of : (m : Mark) → Size m
+size_of mark.Open = small refl
+size_of mark.Close = small refl
+size_of mark.OpenArray = large 40 47 refl refl
+size_of mark.CloseArray = large 47 41 refl refl
+size_of mark.Comma = small refl
+size_of mark.Colon = small refl
+size_of mark.DoubleColon = large 58 58 refl refl
+size_of mark.Assign = small refl
+size_of mark.Equal = large 61 61 refl refl
+size_of mark.NotEqual = large 47 61 refl refl
+size_of mark.Less = small refl
+size_of mark.LessEqual = large 60 61 refl refl
+size_of mark.Greater = small refl
+size_of mark.GreaterEqual = large 62 61 refl refl
+size_of mark.Plus = small refl
+size_of mark.Minus = small refl
+size_of mark.Star = small refl
+size_of mark.Power = large 42 42 refl refl
+size_of mark.Slash = small refl
+size_of mark.Concat = large 47 47 refl refl
+
+two_at_most : (m : Mark) → Size m → length (symbol_text m) ≤ 2
+two_at_most m (small e) = omega (arith, e)
+two_at_most m (large x y e f) = omega (arith, ap length e)
+
+-- where no two characters are a symbol, no other symbol begins there that is longer
+one_at_most : (c d : ℕ) (ds more : List ℕ) (other : Mark) → symbol_of_two c d ≡ None → c ∷ d ∷ ds ≡ symbol_text other ++ more → Size other → length (symbol_text other) ≤ 1
+one_at_most c d ds more other none e (small f) = omega (arith, f)
+one_at_most c d ds more other none e (large x y text two) =
+    let parts : c ∷ d ∷ ds ≡ x ∷ y ∷ more = e ∙ ap (λ l. l ++ more) text in
+    let first : x ≡ c = cc in
+    let second_one : y ≡ d = cc in
+    let found_two : symbol_of_two c d ≡ Some other = subst (λ z. symbol_of_two z d ≡ Some other) first (subst (λ z. symbol_of_two x z ≡ Some other) second_one two) in
+    let both : None ≡ Some other = sym none ∙ found_two in
+    cc
+
+at_end_length : (c : ℕ) (more : List ℕ) (other : Mark) → c ∷ [] ≡ symbol_text other ++ more → length (symbol_text other) ≤ 1
+at_end_length c more other e = omega (arith, ap length e, length-append (symbol_text other) more)
+
+symbol_end : (c : ℕ) (o : Option Mark) → symbol_of_one c ≡ o → IsGood c [] (symbol 0 o)
+symbol_end c None e = record { good = λ rules. cc }
+symbol_end c (Some m) e = record { good = λ rules. record { is = sym (one_back c m e); longest = λ other. λ more. λ f. at_end_length c more other f } }
+
+symbol_short : (c d : ℕ) (ds : List ℕ) (o : Option Mark) → symbol_of_two c d ≡ None → symbol_of_one c ≡ o → IsGood c (d ∷ ds) (symbol 0 o)
+symbol_short c d ds None none e = record { good = λ rules. cc }
+symbol_short c d ds (Some m) none e = record { good = λ rules. record { is = sym (one_back c m e); longest = λ other. λ more. λ f. one_at_most c d ds more other none f (size_of other) } }
+
+symbol_long : (c d : ℕ) (ds : List ℕ) (o : Option Mark) → symbol_of_two c d ≡ o → IsGood c (d ∷ ds) (longer_or o (symbol_of_one c))
+symbol_long c d ds None e = symbol_short c d ds (symbol_of_one c) e refl
+symbol_long c d ds (Some m) e = record { good = λ rules. record { is = sym (two_back c d m e); longest = λ other. λ more. λ f. two_at_most other (size_of other) } }
+
+symbol_good : (c : ℕ) (cs : List ℕ) → IsGood c cs (symbol_at c cs)
+symbol_good c [] = symbol_end c (symbol_of_one c) refl
+symbol_good c (d ∷ ds) = symbol_long c d ds (symbol_of_two c d) refl
+
+pub found_good : (c : ℕ) (cs : List ℕ) → IsGood c cs (found_at c cs)
+found_good c cs =
+    by_test c cs (is_blank c) _ _ (λ e. record { good = λ rules. (e, refl) })
+    (λ e1. by_test c cs (c == 10) _ _ (λ e. record { good = λ rules. (let is : c ≡ 10 = grind (arith, nat_tests) in is, refl) })
+    (λ e2. by_test c cs (is_letter c) _ _ (λ e. word_good c cs e)
+    (λ e3. by_test c cs (is_digit c) _ _ (λ e. number_good c cs e)
+    (λ e4. by_test c cs (is_delimiter c) _ _ (λ e. text_good c cs e)
+    (λ e5. by_test c cs (c == 46) _ _ (λ e. let is : 46 ≡ c = grind (arith, nat_tests) in subst (λ x. IsGood x cs (pointed (word_to_point cs))) is (point_good cs))
+    (λ e6. symbol_good c cs))))))
