@@ -1,3 +1,4 @@
+mod Balance
 mod Capped
 mod Cutting
 mod First

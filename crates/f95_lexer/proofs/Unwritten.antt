@@ -42,7 +42,7 @@ take_front p (c ∷ cs) = go (p c) (take_front p cs)
   go true more = ap (λ l. c ∷ l) more
   go false more = refl
 
-drop_front : (p : ℕ → Bool) (cs : List ℕ) → drop (length (front p cs)) cs ≡ behind_front p cs
+pub drop_front : (p : ℕ → Bool) (cs : List ℕ) → drop (length (front p cs)) cs ≡ behind_front p cs
 drop_front p [] = refl
 drop_front p (c ∷ cs) = go (p c) (drop_front p cs)
   where
@@ -180,11 +180,11 @@ text_good d cs delimiter = let feed : d == 10 ≡ false = grind (arith, nat_test
 
 -- Dotted words.
 
-begun_by : (e : ℕ) (cs : List ℕ) → begins_with e cs ≡ true → cs ≡ e ∷ drop 1 cs
+pub begun_by : (e : ℕ) (cs : List ℕ) → begins_with e cs ≡ true → cs ≡ e ∷ drop 1 cs
 begun_by e [] h = cc
 begun_by e (c ∷ cs) h = let same : c ≡ e = grind (arith, nat_tests) in ap (λ x. x ∷ cs) same
 
-front_behind : (p : ℕ → Bool) (cs : List ℕ) → cs ≡ front p cs ++ behind_front p cs
+pub front_behind : (p : ℕ → Bool) (cs : List ℕ) → cs ≡ front p cs ++ behind_front p cs
 front_behind p [] = refl
 front_behind p (c ∷ cs) = go (p c) (front_behind p cs)
   where
@@ -192,7 +192,7 @@ front_behind p (c ∷ cs) = go (p c) (front_behind p cs)
   go true more = ap (λ l. c ∷ l) more
   go false more = refl
 
-second : (a b : Bool) → a && b ≡ true → b ≡ true
+pub second : (a b : Bool) → a && b ≡ true → b ≡ true
 second true b e = e
 second false b e = cc
 
