@@ -1,5 +1,7 @@
 mod Balance
 mod Capped
+mod Continued
+mod Cut
 mod Cutting
 mod First
 mod Gathering

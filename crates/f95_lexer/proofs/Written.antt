@@ -90,7 +90,7 @@ number_found c w rest e all none apart small =
 abbrev closed_text : List ℕ → ℕ → Literal
 closed_text bytes n = record { bytes = bytes; taken = n; closed = true }
 
-not_true : (b : Bool) → not b ≡ true → b ≡ false
+pub not_true : (b : Bool) → not b ≡ true → b ≡ false
 not_true true e = cc
 not_true false e = refl
 
