@@ -45,17 +45,17 @@ front_kept : (p : ℕ → Bool) (cs : List ℕ) → ((x : ℕ) → p x ≡ true 
 front_kept p [] none h = h
 front_kept p (c ∷ cs) none h = go (p c) refl (λ k. front_kept p cs none k)
   where
-  go : (b : Bool) → p c ≡ b → (balanced None cs ≡ true → balanced None (drop (length (front p cs)) cs) ≡ true) → balanced None (drop (length (cond b (c ∷ front p cs) [])) (c ∷ cs)) ≡ true
-  go true e more = more (step c cs (none c e) h)
-  go false e more = h
+    go : (b : Bool) → p c ≡ b → (balanced None cs ≡ true → balanced None (drop (length (front p cs)) cs) ≡ true) → balanced None (drop (length (cond b (c ∷ front p cs) [])) (c ∷ cs)) ≡ true
+    go true e more = more (step c cs (none c e) h)
+    go false e more = h
 
 taken_kept : (rest : List ℕ) → balanced None rest ≡ true → balanced None (drop (taken rest) rest) ≡ true
 taken_kept [] h = h
 taken_kept (c ∷ cs) h = go (c == 95 || (c == 46 && not (is_some (word_to_point cs)))) refl
   where
-  go : (b : Bool) → c == 95 || (c == 46 && not (is_some (word_to_point cs))) ≡ b → balanced None (drop (cond b 1 0) (c ∷ cs)) ≡ true
-  go true e = let other : is_delimiter c ≡ false = grind (arith, nat_tests) in step c cs other h
-  go false e = h
+    go : (b : Bool) → c == 95 || (c == 46 && not (is_some (word_to_point cs))) ≡ b → balanced None (drop (cond b 1 0) (c ∷ cs)) ≡ true
+    go true e = let other : is_delimiter c ≡ false = grind (arith, nat_tests) in step c cs other h
+    go false e = h
 
 name_plain : (x : ℕ) → is_name x ≡ true → is_delimiter x ≡ false
 name_plain x e = grind (arith, nat_tests)
@@ -69,16 +69,18 @@ letter_plain x e = grind (arith, nat_tests)
 word_kept : (c : ℕ) (cs : List ℕ) → is_letter c ≡ true → IsKept c cs (word_at c cs)
 word_kept c cs e = record {
   closed = λ h. λ k. cc;
-  rest = λ h. front_kept is_name cs name_plain (step c cs (letter_plain c e) h) }
+  rest = λ h. front_kept is_name cs name_plain (step c cs (letter_plain c e) h);
+}
 
 number_kept : (c : ℕ) (cs : List ℕ) → is_digit c ≡ true → IsKept c cs (number_at c cs)
 number_kept c cs e = record {
   closed = λ h. λ k. cc;
   rest = λ h.
-    let behind = behind_front is_digit cs in
-    let n = length (front is_digit cs) in
-    let start : balanced None behind ≡ true = ap (balanced None) (sym (drop_front is_digit cs)) ∙ front_kept is_digit cs digit_plain (step c cs (digit_plain c e) h) in
-    ap (balanced None) (sym (drop-drop (taken behind) n cs) ∙ ap (drop (taken behind)) (drop_front is_digit cs)) ∙ taken_kept behind start }
+      let behind = behind_front is_digit cs in
+      let n = length (front is_digit cs) in
+      let start : balanced None behind ≡ true = ap (balanced None) (sym (drop_front is_digit cs)) ∙ front_kept is_digit cs digit_plain (step c cs (digit_plain c e) h) in
+      ap (balanced None) (sym (drop-drop (taken behind) n cs) ∙ ap (drop (taken behind)) (drop_front is_digit cs)) ∙ taken_kept behind start;
+}
 
 abbrev context : ℕ → Bool → Option ℕ
 context d true = None
@@ -103,32 +105,33 @@ literal_kept d false (c ∷ cs) e h =
     ended_test (c ∷ cs) (c == 10) _ _
     (λ feed. let never : false ≡ true = sym (ap (λ t. cond t false (balanced (kept d c) cs)) feed) ∙ h in cc)
     (λ other.
-      let inner : balanced (kept d c) cs ≡ true = sym (skip (c == 10) false _ _ other refl) ∙ h in
-      ended_test (c ∷ cs) (c == d) _ _
-      (λ test.
-        let now : balanced None cs ≡ true = ap (λ t. balanced (cond t None (Some d)) cs) (sym test) ∙ inner in
-        let t = literal_kept d true cs e now in
-        record { closed = t.closed; rest = later c (literal d true cs).taken cs t.rest })
-      (λ test.
-        let now : balanced (Some d) cs ≡ true = ap (λ t. balanced (cond t None (Some d)) cs) (sym test) ∙ inner in
-        let t = literal_kept d false cs e now in
-        record { closed = t.closed; rest = later c (literal d false cs).taken cs t.rest }))
+    let inner : balanced (kept d c) cs ≡ true = sym (skip (c == 10) false _ _ other refl) ∙ h in
+    ended_test (c ∷ cs) (c == d) _ _
+    (λ test.
+    let now : balanced None cs ≡ true = ap (λ t. balanced (cond t None (Some d)) cs) (sym test) ∙ inner in
+    let t = literal_kept d true cs e now in
+    record { closed = t.closed; rest = later c (literal d true cs).taken cs t.rest })
+    (λ test.
+    let now : balanced (Some d) cs ≡ true = ap (λ t. balanced (cond t None (Some d)) cs) (sym test) ∙ inner in
+    let t = literal_kept d false cs e now in
+    record { closed = t.closed; rest = later c (literal d false cs).taken cs t.rest }))
 literal_kept d true (c ∷ cs) e h =
     ended_test (c ∷ cs) (c == d) _ _
     (λ test.
-      let same : c ≡ d = grind (arith, nat_tests) in
-      let now : balanced (Some d) cs ≡ true = ap (λ o. balanced o cs) (sym (ap opened same ∙ stay (is_delimiter d) _ _ e)) ∙ h in
-      let t = literal_kept d false cs e now in
-      record { closed = t.closed; rest = later c (literal d false cs).taken cs t.rest })
+    let same : c ≡ d = grind (arith, nat_tests) in
+    let now : balanced (Some d) cs ≡ true = ap (λ o. balanced o cs) (sym (ap opened same ∙ stay (is_delimiter d) _ _ e)) ∙ h in
+    let t = literal_kept d false cs e now in
+    record { closed = t.closed; rest = later c (literal d false cs).taken cs t.rest })
     (λ test. record { closed = refl; rest = h })
 
 text_kept : (c : ℕ) (cs : List ℕ) → is_delimiter c ≡ true → IsKept c cs (text_at c cs)
 text_kept c cs e = record {
   closed = λ h. λ k.
-    let t = literal_kept c false cs e (ap (λ o. balanced o cs) (sym (stay (is_delimiter c) _ _ e)) ∙ h) in
-    let never : lexeme.Text (literal c false cs).bytes ≡ lexeme.Unclosed = sym (stay (literal c false cs).closed _ _ t.closed) ∙ k in
-    cc;
-  rest = λ h. (literal_kept c false cs e (ap (λ o. balanced o cs) (sym (stay (is_delimiter c) _ _ e)) ∙ h)).rest }
+      let t = literal_kept c false cs e (ap (λ o. balanced o cs) (sym (stay (is_delimiter c) _ _ e)) ∙ h) in
+      let never : lexeme.Text (literal c false cs).bytes ≡ lexeme.Unclosed = sym (stay (literal c false cs).closed _ _ t.closed) ∙ k in
+      cc;
+  rest = λ h. (literal_kept c false cs e (ap (λ o. balanced o cs) (sym (stay (is_delimiter c) _ _ e)) ∙ h)).rest;
+}
 
 point_cases : (cs : List ℕ) (b : Bool) → not (is_nil (front is_letter cs)) && begins_with 46 (behind_front is_letter cs) ≡ b
     → IsKept 46 cs (pointed (cond b (Some (map lower (front is_letter cs))) None))
@@ -136,13 +139,14 @@ point_cases cs false test = record { closed = λ h. λ k. cc; rest = λ h. h }
 point_cases cs true test = record {
   closed = λ h. λ k. cc;
   rest = λ h.
-    let letters = front is_letter cs in
-    let behind = behind_front is_letter cs in
-    let point : behind ≡ 46 ∷ drop 1 behind = begun_by 46 behind (second (not (is_nil letters)) (begins_with 46 behind) test) in
-    let start : balanced None behind ≡ true = ap (balanced None) (sym (drop_front is_letter cs)) ∙ front_kept is_letter cs letter_plain h in
-    let after_point : balanced None (drop 1 behind) ≡ true = ap (balanced None) (sym point) ∙ start in
-    ap (λ n. balanced None (drop (n + 1) cs)) (length-map letters lower)
-    ∙ ap (balanced None) (sym (drop-drop 1 (length letters) cs) ∙ ap (drop 1) (drop_front is_letter cs)) ∙ after_point }
+      let letters = front is_letter cs in
+      let behind = behind_front is_letter cs in
+      let point : behind ≡ 46 ∷ drop 1 behind = begun_by 46 behind (second (not (is_nil letters)) (begins_with 46 behind) test) in
+      let start : balanced None behind ≡ true = ap (balanced None) (sym (drop_front is_letter cs)) ∙ front_kept is_letter cs letter_plain h in
+      let after_point : balanced None (drop 1 behind) ≡ true = ap (balanced None) (sym point) ∙ start in
+      ap (λ n. balanced None (drop (n + 1) cs)) (length-map letters lower)
+      ∙ ap (balanced None) (sym (drop-drop 1 (length letters) cs) ∙ ap (drop 1) (drop_front is_letter cs)) ∙ after_point;
+}
 
 both_no : (a b : Bool) → b ≡ false → a && b ≡ false
 both_no true b e = e
@@ -177,7 +181,8 @@ pair_kept : (c d : ℕ) (ds : List ℕ) (o : Option Mark) → is_delimiter c ≡
 pair_kept c d ds None other e = single_kept c (d ∷ ds) (symbol_of_one c) other
 pair_kept c d ds (Some m) other e = record {
   closed = λ h. λ k. cc;
-  rest = λ h. step d ds (symbol_plain c d m (is_delimiter d) refl e) (step c (d ∷ ds) other h) }
+  rest = λ h. step d ds (symbol_plain c d m (is_delimiter d) refl e) (step c (d ∷ ds) other h);
+}
 
 symbol_kept : (c : ℕ) (cs : List ℕ) → is_delimiter c ≡ false → IsKept c cs (symbol_at c cs)
 symbol_kept c [] other = single_kept c [] (symbol_of_one c) other

@@ -43,9 +43,9 @@ kept_leads d c line s other f = record { leads = λ whole. λ rest. λ h. skip (
 counted_leads : (context : Option ℕ) (line left : ℕ) (s : Spliced) → Leads context s → Leads context (all_broken (fortieth line left) s)
 counted_leads context line left s f = go (left == 1)
   where
-  go : (b : Bool) → Leads context (all_broken (cond b (broken_at line 4 ∷ []) []) s)
-  go true = record { leads = λ whole. λ rest. λ h. cc }
-  go false = f
+    go : (b : Bool) → Leads context (all_broken (cond b (broken_at line 4 ∷ []) []) s)
+    go true = record { leads = λ whole. λ rest. λ h. cc }
+    go false = f
 
 scan_leads : (inside : Option ℕ) (line left : ℕ) (cs : List ℕ) → AllPass is_inside cs → Leads inside (scan inside line left cs)
 scan_leads None line left [] all = put_leads 10 line _ (ends_leads Fresh)
@@ -76,9 +76,9 @@ from_blank_inside : (cs : List ℕ) → AllPass is_inside cs → AllPass is_insi
 from_blank_inside [] all = tt
 from_blank_inside (c ∷ cs) all = go (is_blank c) (from_blank_inside cs all.1)
   where
-  go : (b : Bool) → AllPass is_inside (from_blank cs) → AllPass is_inside (cond b (from_blank cs) (c ∷ cs))
-  go true more = more
-  go false more = all
+    go : (b : Bool) → AllPass is_inside (from_blank cs) → AllPass is_inside (cond b (from_blank cs) (c ∷ cs))
+    go true more = more
+    go false more = all
 
 -- an empty list joined of two
 pub left_empty : {A : Type 0} (xs ys : List A) → xs ++ ys ≡ [] → xs ≡ []
@@ -99,11 +99,13 @@ splice_leads m n (text ∷ texts) all =
     let rest = splice first.mode (n + 1) texts in
     let now = read_leads m n (from_blank text) (from_blank_inside text all.0) in
     let more = splice_leads first.mode (n + 1) texts all.1 in
-    record { leads = λ whole. λ behind. λ h.
-      let front = left_empty (too_long n text ++ first.breaks) rest.breaks whole in
-      ap (balanced (mode_context m)) (ap (λ l. l ++ behind) (map-append (λ (x : Character). x.byte) first.text rest.text) ∙ append_assoc (bytes_of first.text) (bytes_of rest.text) behind)
-      ∙ now.leads (right_empty (too_long n text) first.breaks front) (bytes_of rest.text ++ behind)
-        (more.leads (right_empty (too_long n text ++ first.breaks) rest.breaks whole) behind h) }
+    record {
+      leads = λ whole. λ behind. λ h.
+          let front = left_empty (too_long n text ++ first.breaks) rest.breaks whole in
+          ap (balanced (mode_context m)) (ap (λ l. l ++ behind) (map-append (λ (x : Character). x.byte) first.text rest.text) ∙ append_assoc (bytes_of first.text) (bytes_of rest.text) behind)
+          ∙ now.leads (right_empty (too_long n text) first.breaks front) (bytes_of rest.text ++ behind)
+          (more.leads (right_empty (too_long n text ++ first.breaks) rest.breaks whole) behind h);
+    }
 
 -- no line has a line feed in it
 onto_inside : (c : ℕ) (lines : List (List ℕ)) → is_inside c ≡ true → Each IsInsideLine lines → Each IsInsideLine (onto c lines)
@@ -114,10 +116,10 @@ lines_inside : (bytes : List ℕ) → Each IsInsideLine (lines_of bytes)
 lines_inside [] = tt
 lines_inside (c ∷ cs) = go (c == 10) (c == 13 && begins_with_feed cs) refl (lines_inside cs)
   where
-  go : (b r : Bool) → c == 10 ≡ b → Each IsInsideLine (lines_of cs) → Each IsInsideLine (cond b ([] ∷ lines_of cs) (cond r (lines_of cs) (onto c (lines_of cs))))
-  go true r e more = (tt, more)
-  go false true e more = more
-  go false false e more = onto_inside c (lines_of cs) (ap not e) more
+    go : (b r : Bool) → c == 10 ≡ b → Each IsInsideLine (lines_of cs) → Each IsInsideLine (cond b ([] ∷ lines_of cs) (cond r (lines_of cs) (onto c (lines_of cs))))
+    go true r e more = (tt, more)
+    go false true e more = more
+    go false false e more = onto_inside c (lines_of cs) (ap not e) more
 
 finished : (m : Mode) → unfinished m ≡ [] → balanced (mode_context m) [] ≡ true
 finished Fresh e = refl

@@ -1,5 +1,6 @@
 -- A text cuts into statements exactly where no rule is broken, and in one way.
-use Rattle.std.proofs.Common.{◌≡◌, ℕ, ℤ, zero, suc, ◌+◌, ◌≤◌, Bool, true, false, List, [], ◌∷◌, ◌++◌, length, map, take, drop, Option, Some, None, refl, sym, ap, ◌∙◌, subst, arith}
+use Rattle.std.proofs.Common.{◌≡◌, ℕ, ℤ, zero, suc, ◌+◌, ◌≤◌, Bool, true, false, List, [], ◌∷◌, ◌++◌, length, map, take, drop, Option, Some, None, Result, Ok, Err, IfOk, ◌<◌, refl, sym, ap, ◌∙◌, subst, inl, inr, ⊎_elim, arith}
+use Rattle.std.proofs.lemmas.Bool.{cases_lt}
 use Rattle.std.proofs.lemmas.List.{take-map, drop-map, take-append-drop}
 use Rattle.f95_lexer.specs.declared.character.Character.{Character}
 use Rattle.f95_lexer.specs.declared.character.Break.{Break}
@@ -12,7 +13,9 @@ use Rattle.f95_lexer.specs.Lexeme.{bytes_of, found_at}
 use Rattle.f95_lexer.specs.Lines.{feeds_of}
 use Rattle.f95_lexer.specs.Splicing.{broken_at, spliced, line_breaks, opened}
 use Rattle.f95_lexer.specs.Statements.{Item, Ends, Stands, Placed, items_at, items_of, rules_of, token_breaks, lexemes_behind, lexemes_of, statements_of}
-use Rattle.f95_lexer.specs.Rules.{Has, IsBroken, breaks_of}
+use Rattle.f95_lexer.specs.Rules.{Has, IsBroken, long_file, breaks_of}
+use Rattle.f95_lexer.specs.declared.token.Statements.{Statements}
+use Rattle.a95_base.specs.declared.source.PhaseError.{PhaseError}
 use Rattle.f95_lexer.specs.Spelling.{IsGap, Spells, Spelled, nothing, next, Cuts}
 use Rattle.f95_lexer.proofs.Balance.{balanced, found_kept}
 use Rattle.f95_lexer.proofs.Continued.{whole_balanced, left_empty, right_empty}
@@ -62,20 +65,24 @@ read_spelled zero (c ∷ cs) whole h =
     let k = found_kept c.byte (bytes_of cs) in
     let written = (found_good c.byte (bytes_of cs)).good rules in
     let here : IsWritten f.lexeme c.byte (bytes_of (take f.further cs)) (bytes_of (drop f.further cs)) =
-        subst (λ m. IsWritten f.lexeme c.byte m (bytes_of (drop f.further cs))) (take-map (λ (x : Character). x.byte) f.further cs)
-        (subst (λ m. IsWritten f.lexeme c.byte (take f.further (bytes_of cs)) m) (drop-map (λ (x : Character). x.byte) f.further cs) written) in
+    subst (λ m. IsWritten f.lexeme c.byte m (bytes_of (drop f.further cs))) (take-map (λ (x : Character). x.byte) f.further cs)
+    (subst (λ m. IsWritten f.lexeme c.byte (take f.further (bytes_of cs)) m) (drop-map (λ (x : Character). x.byte) f.further cs) written) in
     let rest : balanced None (bytes_of (drop f.further cs)) ≡ true = ap (balanced None) (sym (drop-map (λ (x : Character). x.byte) f.further cs)) ∙ k.rest h in
     subst (λ l. Spelled (c ∷ l) (items_at c.line f.lexeme ++ items_of (lexemes_behind f.further cs))) (take-append-drop f.further cs)
     (lexeme_spelled f.lexeme c (take f.further cs) (drop f.further cs) (items_of (lexemes_behind f.further cs)) here (k.closed h)
-      (read_spelled f.further cs (right_empty mine behind whole) rest))
+    (read_spelled f.further cs (right_empty mine behind whole) rest))
 
 pub unbroken_cuts : (bytes : List ℕ) (statements : List Statement) (feeds : ℕ) → length bytes ≤ 1048576 → breaks_of bytes ≡ [] → statements ≡ statements_of (items_of (lexemes_of bytes)) → feeds ≡ feeds_of bytes → Cuts bytes statements feeds
 unbroken_cuts bytes statements feeds short none are counted =
     let lines = left_empty (line_breaks bytes) (token_breaks (lexemes_of bytes)) none in
     record {
-      short = short; lines = lines; items = items_of (lexemes_of bytes);
+      short = short;
+      lines = lines;
+      items = items_of (lexemes_of bytes);
       spelled = read_spelled 0 (spliced bytes).text (right_empty (line_breaks bytes) (token_breaks (lexemes_of bytes)) none) (whole_balanced bytes lines);
-      are = are; counted = counted }
+      are = are;
+      counted = counted;
+    }
 
 -- what a text cuts into is read, and breaks no rule
 cut_statements : (bytes : List ℕ) (statements : List Statement) (feeds : ℕ) → Cuts bytes statements feeds → statements ≡ statements_of (items_of (lexemes_of bytes))
@@ -89,3 +96,22 @@ cut_unbroken bytes statements feeds line rule c b = nothing_broken bytes line ru
 
 pub one_cut : (bytes : List ℕ) (a b : List Statement) (m n : ℕ) → Cuts bytes a m → Cuts bytes b n → (a ≡ b) × (m ≡ n)
 one_cut bytes a b m n x y = (cut_statements bytes a m x ∙ sym (cut_statements bytes b n y), x.counted ∙ sym y.counted)
+
+none_listed : (bytes : List ℕ) (bs : List Break) → ((b : Break) → Has b bs → Has b (breaks_of bytes)) → ((line rule : ℕ) → IsBroken bytes line rule → ⊥) → bs ≡ []
+none_listed bytes [] among none = refl
+none_listed bytes (b ∷ bs) among none = absurd (none b.line b.rule (listed_is_broken bytes b (among b (inl refl))))
+
+pub cuts : (bytes : List ℕ) → ((line rule : ℕ) → IsBroken bytes line rule → ⊥) → (statements : List Statement) × (feeds : ℕ) × Cuts bytes statements feeds
+cuts bytes none = ⊎_elim
+    (λ (long : 1048576 < length bytes). absurd (none 1 1 (long_file long)))
+    (λ (short : length bytes ≤ 1048576). (
+      statements_of (items_of (lexemes_of bytes)),
+      feeds_of bytes,
+      unbroken_cuts bytes _ _ short (none_listed bytes (breaks_of bytes) (λ b. λ h. h) none) refl refl,
+    ))
+    (cases_lt 1048576 (length bytes))
+
+pub cut_by : (bytes : List ℕ) (r : Result Statements PhaseError) → length bytes ≤ 1048576 → IfOk r (λ s. breaks_of bytes ≡ []) → IfOk r (λ s. s.list ≡ statements_of (items_of (lexemes_of bytes))) → IfOk r (λ s. s.feeds ≡ feeds_of bytes)
+    → IfOk r (λ s. Cuts bytes s.list s.feeds)
+cut_by bytes (Ok s) short none list feeds = unbroken_cuts bytes s.list s.feeds short none list feeds
+cut_by bytes (Err e) short none list feeds = tt

@@ -34,7 +34,8 @@ word_item line w written rest s =
     record {
       what = lexeme.Word w;
       there = record { first = s.letter; more = s.more; is = s.is; found_there = found_word ∙ ap (λ l. found (lexeme.Word l) (length s.more)) (sym s.lowered) };
-      item = record { items = refl; rules = ap (λ t. cond t (7 ∷ []) []) few } }
+      item = record { items = refl; rules = ap (λ t. cond t (7 ∷ []) []) few };
+    }
 
 number_item : (line : ℕ) (z : ℤ) (written rest : List ℕ) → SpellsNumber z written rest → ItemFound line (Stands line (token.Number z)) written rest
 number_item line z written rest s =
@@ -42,34 +43,46 @@ number_item line z written rest s =
     let value : z ≡ pos (value_from 0 (s.digit ∷ s.more)) = s.value ∙ ap (λ l. pos (value_from 0 l)) s.is in
     record {
       what = lexeme.Number (Some z) false;
-      there = record { first = s.digit; more = s.more; is = s.is;
-        found_there = number_found s.digit s.more rest s.begun s.digits s.longest s.apart small ∙ ap (λ v. found (lexeme.Number (Some v) false) (length s.more)) (sym value) };
-      item = record { items = refl; rules = refl } }
+      there = record {
+        first = s.digit;
+        more = s.more;
+        is = s.is;
+        found_there = number_found s.digit s.more rest s.begun s.digits s.longest s.apart small ∙ ap (λ v. found (lexeme.Number (Some v) false) (length s.more)) (sym value);
+      };
+      item = record { items = refl; rules = refl };
+    }
 
 text_item : (line : ℕ) (bytes written rest : List ℕ) → SpellsText bytes written rest → ItemFound line (Stands line (token.Text bytes)) written rest
 text_item line bytes written rest s = record {
   what = lexeme.Text bytes;
   there = record { first = s.delimiter; more = doubled s.delimiter bytes ++ s.delimiter ∷ []; is = s.is; found_there = text_found s.delimiter bytes rest s.begun s.inside s.longest };
-  item = record { items = refl; rules = refl } }
+  item = record { items = refl; rules = refl };
+}
 
 dotted_item : (line : ℕ) (w written rest : List ℕ) → SpellsDotted w written rest → ItemFound line (Stands line (token.Dotted w)) written rest
 dotted_item line w written rest s =
     let word : is_dotted (map lower s.letters) ≡ true = subst (λ l. is_dotted l ≡ true) s.lowered s.word in
     record {
       what = lexeme.Pointed w;
-      there = record { first = 46; more = s.letters ++ 46 ∷ []; is = s.is;
-        found_there = dotted_found s.letters rest s.names word ∙ ap (λ l. found (lexeme.Pointed l) (length (s.letters ++ 46 ∷ []))) (sym s.lowered) };
-      item = record { items = refl; rules = ap (λ t. cond t [] (10 ∷ [])) s.word } }
+      there = record {
+        first = 46;
+        more = s.letters ++ 46 ∷ [];
+        is = s.is;
+        found_there = dotted_found s.letters rest s.names word ∙ ap (λ l. found (lexeme.Pointed l) (length (s.letters ++ 46 ∷ []))) (sym s.lowered);
+      };
+      item = record { items = refl; rules = ap (λ t. cond t [] (10 ∷ [])) s.word };
+    }
 
 mark_item : (line : ℕ) (m : Mark) (written rest : List ℕ) → SpellsMark m written rest → ItemFound line (Stands line (token.Mark m)) written rest
 mark_item line m written rest s =
     let longest : IsLongest m rest = λ other. λ more. λ e.
-        subst (λ l. length (symbol_text other) ≤ length l) s.is (s.longest other more (ap (λ l. l ++ rest) s.is ∙ e)) in
+    subst (λ l. length (symbol_text other) ≤ length l) s.is (s.longest other more (ap (λ l. l ++ rest) s.is ∙ e)) in
     let f = mark_found m rest longest in
     record {
       what = lexeme.Symbol m;
       there = record { first = f.first; more = f.more; is = s.is ∙ f.is; found_there = f.found_there };
-      item = record { items = refl; rules = refl } }
+      item = record { items = refl; rules = refl };
+    }
 
 token_item : (line : ℕ) (t : Token) (written rest : List ℕ) → SpellsToken t written rest → ItemFound line (Stands line t) written rest
 token_item line (token.Word w) written rest s = word_item line w written rest s
@@ -92,13 +105,14 @@ in_front : (c : Character) (w rest : List Character) (l : Lexeme) (first items :
     found_at c.byte (bytes_of (w ++ rest)) ≡ found l (length w) → items_at c.line l ≡ first → rules_of l ≡ [] → IsRead rest items → IsRead (c ∷ (w ++ rest)) (first ++ items)
 in_front c w rest l first items at gives rules r = record {
   read =
-    ap (λ f. items_at c.line f.lexeme ++ items_of (lexemes_behind f.further (w ++ rest))) at
-    ∙ ap (λ x. x ++ items_of (lexemes_behind (length w) (w ++ rest))) gives
-    ∙ ap (λ ps. first ++ items_of ps) (past w rest) ∙ ap (λ x. first ++ x) r.read;
+      ap (λ f. items_at c.line f.lexeme ++ items_of (lexemes_behind f.further (w ++ rest))) at
+      ∙ ap (λ x. x ++ items_of (lexemes_behind (length w) (w ++ rest))) gives
+      ∙ ap (λ ps. first ++ items_of ps) (past w rest) ∙ ap (λ x. first ++ x) r.read;
   breaks =
-    ap (λ (f : Found). map (broken_at c.line) (rules_of f.lexeme) ++ token_breaks (lexemes_behind f.further (w ++ rest))) at
-    ∙ ap (λ rs. map (broken_at c.line) rs ++ token_breaks (lexemes_behind (length w) (w ++ rest))) rules
-    ∙ ap token_breaks (past w rest) ∙ r.breaks }
+      ap (λ (f : Found). map (broken_at c.line) (rules_of f.lexeme) ++ token_breaks (lexemes_behind f.further (w ++ rest))) at
+      ∙ ap (λ rs. map (broken_at c.line) rs ++ token_breaks (lexemes_behind (length w) (w ++ rest))) rules
+      ∙ ap token_breaks (past w rest) ∙ r.breaks;
+}
 
 gap_read : (gap rest : List Character) (items : List Item) → IsGap gap → IsRead rest items → IsRead (gap ++ rest) items
 gap_read [] rest items blank r = r
@@ -114,8 +128,8 @@ item_read c w rest i items f r =
     let count : length f.there.more ≡ length w = ap length (sym more) ∙ length-map w (λ (x : Character). x.byte) in
     in_front c w rest f.what (i ∷ []) items
     (ap (found_at c.byte) (map-append (λ (x : Character). x.byte) w rest)
-      ∙ ap (λ b. found_at b (bytes_of w ++ bytes_of rest)) first ∙ ap (λ l. found_at f.there.first (l ++ bytes_of rest)) more
-      ∙ f.there.found_there ∙ ap (found f.what) count)
+    ∙ ap (λ b. found_at b (bytes_of w ++ bytes_of rest)) first ∙ ap (λ l. found_at f.there.first (l ++ bytes_of rest)) more
+    ∙ f.there.found_there ∙ ap (found f.what) count)
     f.item.items f.item.rules r
 
 end_found : (b : ℕ) (cs : List ℕ) → b ≡ 10 → found_at b cs ≡ found lexeme.End 0

@@ -38,33 +38,33 @@ take_front : (p : ℕ → Bool) (cs : List ℕ) → take (length (front p cs)) c
 take_front p [] = refl
 take_front p (c ∷ cs) = go (p c) (take_front p cs)
   where
-  go : (b : Bool) → take (length (front p cs)) cs ≡ front p cs → take (length (cond b (c ∷ front p cs) [])) (c ∷ cs) ≡ cond b (c ∷ front p cs) []
-  go true more = ap (λ l. c ∷ l) more
-  go false more = refl
+    go : (b : Bool) → take (length (front p cs)) cs ≡ front p cs → take (length (cond b (c ∷ front p cs) [])) (c ∷ cs) ≡ cond b (c ∷ front p cs) []
+    go true more = ap (λ l. c ∷ l) more
+    go false more = refl
 
 pub drop_front : (p : ℕ → Bool) (cs : List ℕ) → drop (length (front p cs)) cs ≡ behind_front p cs
 drop_front p [] = refl
 drop_front p (c ∷ cs) = go (p c) (drop_front p cs)
   where
-  go : (b : Bool) → drop (length (front p cs)) cs ≡ behind_front p cs → drop (length (cond b (c ∷ front p cs) [])) (c ∷ cs) ≡ cond b (behind_front p cs) (c ∷ cs)
-  go true more = more
-  go false more = refl
+    go : (b : Bool) → drop (length (front p cs)) cs ≡ behind_front p cs → drop (length (cond b (c ∷ front p cs) [])) (c ∷ cs) ≡ cond b (behind_front p cs) (c ∷ cs)
+    go true more = more
+    go false more = refl
 
 front_passes : (p : ℕ → Bool) (cs : List ℕ) → AllPass p (front p cs)
 front_passes p [] = tt
 front_passes p (c ∷ cs) = go (p c) refl (front_passes p cs)
   where
-  go : (b : Bool) → p c ≡ b → AllPass p (front p cs) → AllPass p (cond b (c ∷ front p cs) [])
-  go true e more = (e, more)
-  go false e more = tt
+    go : (b : Bool) → p c ≡ b → AllPass p (front p cs) → AllPass p (cond b (c ∷ front p cs) [])
+    go true e more = (e, more)
+    go false e more = tt
 
 behind_stops : (p : ℕ → Bool) (cs : List ℕ) → begins p (behind_front p cs) ≡ false
 behind_stops p [] = refl
 behind_stops p (c ∷ cs) = go (p c) refl (behind_stops p cs)
   where
-  go : (b : Bool) → p c ≡ b → begins p (behind_front p cs) ≡ false → begins p (cond b (behind_front p cs) (c ∷ cs)) ≡ false
-  go true e more = more
-  go false e more = e
+    go : (b : Bool) → p c ≡ b → begins p (behind_front p cs) ≡ false → begins p (cond b (behind_front p cs) (c ∷ cs)) ≡ false
+    go true e more = more
+    go false e more = e
 
 -- a test that would break a rule has failed
 unbroken : (b : Bool) (r : ℕ) → cond b (r ∷ []) [] ≡ [] → b ≡ false
@@ -72,32 +72,36 @@ unbroken true r e = cc
 unbroken false r e = refl
 
 word_good : (c : ℕ) (cs : List ℕ) → is_letter c ≡ true → IsGood c cs (word_at c cs)
-word_good c cs letter = record { good = λ rules.
-    let w = lower c ∷ map lower (front is_name cs) in
-    let n = length (front is_name cs) in
-    let few : nat_lt 31 (length w) ≡ false = unbroken (nat_lt 31 (length w)) 7 rules in
-    let short : length w ≤ 31 = grind (arith, nat_tests) in
-    let spelled : SpellsWord w (c ∷ front is_name cs) (behind_front is_name cs) =
-        (record { letter = c; more = front is_name cs; is = refl; begun = letter; names = front_passes is_name cs; lowered = refl; short = short; longest = behind_stops is_name cs }) in
-    subst (λ l. SpellsWord w (c ∷ l) (drop n cs)) (sym (take_front is_name cs)) (subst (λ l. SpellsWord w (c ∷ front is_name cs) l) (sym (drop_front is_name cs)) spelled) }
+word_good c cs letter = record {
+  good = λ rules.
+      let w = lower c ∷ map lower (front is_name cs) in
+      let n = length (front is_name cs) in
+      let few : nat_lt 31 (length w) ≡ false = unbroken (nat_lt 31 (length w)) 7 rules in
+      let short : length w ≤ 31 = grind (arith, nat_tests) in
+      let spelled : SpellsWord w (c ∷ front is_name cs) (behind_front is_name cs) =
+      (record { letter = c; more = front is_name cs; is = refl; begun = letter; names = front_passes is_name cs; lowered = refl; short = short; longest = behind_stops is_name cs }) in
+      subst (λ l. SpellsWord w (c ∷ l) (drop n cs)) (sym (take_front is_name cs)) (subst (λ l. SpellsWord w (c ∷ front is_name cs) l) (sym (drop_front is_name cs)) spelled);
+}
 
 -- a number, by the test of its size
 number_cases : (c : ℕ) (cs : List ℕ) (b k : Bool) → is_digit c ≡ true → nat_lt (value_from (c - 48) (front is_digit cs)) 2147483648 ≡ b → clings (behind_front is_digit cs) ≡ k
     → IsGood c cs (found (lexeme.Number (cond b (Some (pos (value_from (c - 48) (front is_digit cs)))) None) k) (length (front is_digit cs) + taken (behind_front is_digit cs)))
 number_cases c cs false k digit size apart = record { good = λ rules. cc }
 number_cases c cs true true digit size apart = record { good = λ rules. cc }
-number_cases c cs true false digit size apart = record { good = λ rules.
-    let ds = front is_digit cs in
-    let behind = behind_front is_digit cs in
-    let start : 0 * 10 + (c - 48) ≡ c - 48 = omega arith in
-    let value = value_from (c - 48) ds in
-    let small : value < 2147483648 = grind (arith, nat_tests) in
-    let same : value_from 0 (c ∷ ds) ≡ value = ap (λ n. value_from n ds) start in
-    let count : length ds + taken behind ≡ length ds = omega (arith, taken_none behind apart) in
-    let spelled : SpellsNumber (pos value) (c ∷ ds) behind =
-        (record { digit = c; more = ds; is = refl; begun = digit; digits = front_passes is_digit cs; value = ap pos (sym same); small = subst (λ n. n < 2147483648) (sym same) small; longest = behind_stops is_digit cs; apart = apart }) in
-    subst (λ n. SpellsNumber (pos value) (c ∷ take n cs) (drop n cs)) (sym count)
-    (subst (λ l. SpellsNumber (pos value) (c ∷ l) (drop (length ds) cs)) (sym (take_front is_digit cs)) (subst (λ l. SpellsNumber (pos value) (c ∷ ds) l) (sym (drop_front is_digit cs)) spelled)) }
+number_cases c cs true false digit size apart = record {
+  good = λ rules.
+      let ds = front is_digit cs in
+      let behind = behind_front is_digit cs in
+      let start : 0 * 10 + (c - 48) ≡ c - 48 = omega arith in
+      let value = value_from (c - 48) ds in
+      let small : value < 2147483648 = grind (arith, nat_tests) in
+      let same : value_from 0 (c ∷ ds) ≡ value = ap (λ n. value_from n ds) start in
+      let count : length ds + taken behind ≡ length ds = omega (arith, taken_none behind apart) in
+      let spelled : SpellsNumber (pos value) (c ∷ ds) behind =
+      (record { digit = c; more = ds; is = refl; begun = digit; digits = front_passes is_digit cs; value = ap pos (sym same); small = subst (λ n. n < 2147483648) (sym same) small; longest = behind_stops is_digit cs; apart = apart }) in
+      subst (λ n. SpellsNumber (pos value) (c ∷ take n cs) (drop n cs)) (sym count)
+      (subst (λ l. SpellsNumber (pos value) (c ∷ l) (drop (length ds) cs)) (sym (take_front is_digit cs)) (subst (λ l. SpellsNumber (pos value) (c ∷ ds) l) (sym (drop_front is_digit cs)) spelled));
+}
 
 number_good : (c : ℕ) (cs : List ℕ) → is_digit c ≡ true → IsGood c cs (number_at c cs)
 number_good c cs digit = number_cases c cs (nat_lt (value_from (c - 48) (front is_digit cs)) 2147483648) (clings (behind_front is_digit cs)) digit refl refl
@@ -134,46 +138,56 @@ text_parts d false [] feed = record { if_closed = λ closed. cc }
 text_parts d false (c ∷ cs) feed =
     closed_test d false (c ∷ cs) (c == 10) _ _ (λ e. record { if_closed = λ closed. cc })
     (λ other. closed_test d false (c ∷ cs) (c == d) _ _
-      (λ e. let same : c ≡ d = grind (arith, nat_tests) in record { if_closed = λ closed.
-        let t = (text_parts d true cs feed).if_closed closed in
-        record { rest = t.rest; is = ap (λ x. x ∷ cs) same ∙ t.is; count = t.count; inside = t.inside; longest = t.longest } })
-      (λ e. record { if_closed = λ closed.
-        let t = (text_parts d false cs feed).if_closed closed in
-        let bytes = (literal d false cs).bytes in
-        let written : doubled d (c ∷ bytes) ≡ c ∷ doubled d bytes = skip (c == d) _ _ _ e refl in
-        record {
-          rest = t.rest;
-          is = ap (λ l. c ∷ l) t.is ∙ sym (ap (λ l. l ++ (d ∷ t.rest)) written);
-          count = ap (λ n. n + 1) t.count ∙ (let n = length (doubled d bytes) in let step : n + 1 + 1 ≡ suc n + 1 = omega arith in step) ∙ ap (λ l. length l + 1) (sym written);
-          inside = (ap not other, t.inside);
-          longest = t.longest } }))
+    (λ e. let same : c ≡ d = grind (arith, nat_tests) in record {
+      if_closed = λ closed.
+          let t = (text_parts d true cs feed).if_closed closed in
+          record { rest = t.rest; is = ap (λ x. x ∷ cs) same ∙ t.is; count = t.count; inside = t.inside; longest = t.longest };
+    })
+    (λ e. record {
+      if_closed = λ closed.
+          let t = (text_parts d false cs feed).if_closed closed in
+          let bytes = (literal d false cs).bytes in
+          let written : doubled d (c ∷ bytes) ≡ c ∷ doubled d bytes = skip (c == d) _ _ _ e refl in
+          record {
+            rest = t.rest;
+            is = ap (λ l. c ∷ l) t.is ∙ sym (ap (λ l. l ++ (d ∷ t.rest)) written);
+            count = ap (λ n. n + 1) t.count ∙ (let n = length (doubled d bytes) in let step : n + 1 + 1 ≡ suc n + 1 = omega arith in step) ∙ ap (λ l. length l + 1) (sym written);
+            inside = (ap not other, t.inside);
+            longest = t.longest;
+          };
+    }))
 text_parts d true (c ∷ cs) feed =
     closed_test d true (c ∷ cs) (c == d) _ _
-    (λ e. let same : c ≡ d = grind (arith, nat_tests) in record { if_closed = λ closed.
-      let t = (text_parts d false cs feed).if_closed closed in
-      let bytes = (literal d false cs).bytes in
-      let written : doubled d (d ∷ bytes) ≡ d ∷ d ∷ doubled d bytes = stay (d == d) _ _ (same_one d) in
-      record {
-        rest = t.rest;
-        is = ap (λ x. d ∷ x ∷ cs) same ∙ ap (λ l. d ∷ d ∷ l) t.is ∙ sym (ap (λ l. l ++ (d ∷ t.rest)) written);
-        count = ap (λ n. n + 1 + 1) t.count ∙ (let n = length (doubled d bytes) in let step : n + 1 + 1 + 1 ≡ suc (suc n) + 1 = omega arith in step) ∙ ap (λ l. length l + 1) (sym written);
-        inside = (ap not feed, t.inside);
-        longest = t.longest } })
+    (λ e. let same : c ≡ d = grind (arith, nat_tests) in record {
+      if_closed = λ closed.
+          let t = (text_parts d false cs feed).if_closed closed in
+          let bytes = (literal d false cs).bytes in
+          let written : doubled d (d ∷ bytes) ≡ d ∷ d ∷ doubled d bytes = stay (d == d) _ _ (same_one d) in
+          record {
+            rest = t.rest;
+            is = ap (λ x. d ∷ x ∷ cs) same ∙ ap (λ l. d ∷ d ∷ l) t.is ∙ sym (ap (λ l. l ++ (d ∷ t.rest)) written);
+            count = ap (λ n. n + 1 + 1) t.count ∙ (let n = length (doubled d bytes) in let step : n + 1 + 1 + 1 ≡ suc (suc n) + 1 = omega arith in step) ∙ ap (λ l. length l + 1) (sym written);
+            inside = (ap not feed, t.inside);
+            longest = t.longest;
+          };
+    })
     (λ e. record { if_closed = λ closed. record { rest = c ∷ cs; is = refl; count = refl; inside = tt; longest = e } })
 
 text_cases : (d : ℕ) (cs : List ℕ) (b : Bool) → is_delimiter d ≡ true → d == 10 ≡ false → (literal d false cs).closed ≡ b
     → IsGood d cs (found (cond b (lexeme.Text (literal d false cs).bytes) lexeme.Unclosed) (literal d false cs).taken)
 text_cases d cs false delimiter feed closed = record { good = λ rules. tt }
-text_cases d cs true delimiter feed closed = record { good = λ rules.
-    let bytes = (literal d false cs).bytes in
-    let t = (text_parts d false cs feed).if_closed closed in
-    let written = doubled d bytes ++ d ∷ [] in
-    let apart : cs ≡ written ++ t.rest = t.is ∙ sym (append_assoc (doubled d bytes) (d ∷ []) t.rest) in
-    let count : length written ≡ (literal d false cs).taken = length_push (doubled d bytes) d ∙ sym t.count in
-    let spelled : SpellsText bytes (d ∷ written) t.rest = (record { delimiter = d; begun = delimiter; is = refl; inside = t.inside; longest = t.longest }) in
-    subst (λ l. SpellsText bytes (d ∷ take (literal d false cs).taken l) (drop (literal d false cs).taken l)) (sym apart)
-    (subst (λ l. SpellsText bytes (d ∷ l) (drop (literal d false cs).taken (written ++ t.rest))) (sym (take_at written t.rest _ count))
-    (subst (λ l. SpellsText bytes (d ∷ written) l) (sym (drop_at written t.rest _ count)) spelled)) }
+text_cases d cs true delimiter feed closed = record {
+  good = λ rules.
+      let bytes = (literal d false cs).bytes in
+      let t = (text_parts d false cs feed).if_closed closed in
+      let written = doubled d bytes ++ d ∷ [] in
+      let apart : cs ≡ written ++ t.rest = t.is ∙ sym (append_assoc (doubled d bytes) (d ∷ []) t.rest) in
+      let count : length written ≡ (literal d false cs).taken = length_push (doubled d bytes) d ∙ sym t.count in
+      let spelled : SpellsText bytes (d ∷ written) t.rest = (record { delimiter = d; begun = delimiter; is = refl; inside = t.inside; longest = t.longest }) in
+      subst (λ l. SpellsText bytes (d ∷ take (literal d false cs).taken l) (drop (literal d false cs).taken l)) (sym apart)
+      (subst (λ l. SpellsText bytes (d ∷ l) (drop (literal d false cs).taken (written ++ t.rest))) (sym (take_at written t.rest _ count))
+      (subst (λ l. SpellsText bytes (d ∷ written) l) (sym (drop_at written t.rest _ count)) spelled));
+}
 
 text_good : (d : ℕ) (cs : List ℕ) → is_delimiter d ≡ true → IsGood d cs (text_at d cs)
 text_good d cs delimiter = let feed : d == 10 ≡ false = grind (arith, nat_tests) in text_cases d cs (literal d false cs).closed delimiter feed refl
@@ -188,9 +202,9 @@ pub front_behind : (p : ℕ → Bool) (cs : List ℕ) → cs ≡ front p cs ++ b
 front_behind p [] = refl
 front_behind p (c ∷ cs) = go (p c) (front_behind p cs)
   where
-  go : (b : Bool) → cs ≡ front p cs ++ behind_front p cs → c ∷ cs ≡ cond b (c ∷ front p cs) [] ++ cond b (behind_front p cs) (c ∷ cs)
-  go true more = ap (λ l. c ∷ l) more
-  go false more = refl
+    go : (b : Bool) → cs ≡ front p cs ++ behind_front p cs → c ∷ cs ≡ cond b (c ∷ front p cs) [] ++ cond b (behind_front p cs) (c ∷ cs)
+    go true more = ap (λ l. c ∷ l) more
+    go false more = refl
 
 pub second : (a b : Bool) → a && b ≡ true → b ≡ true
 second true b e = e
@@ -203,18 +217,20 @@ no_rule false r e = cc
 dotted_cases : (cs : List ℕ) (b : Bool) → not (is_nil (front is_letter cs)) && begins_with 46 (behind_front is_letter cs) ≡ b
     → IsGood 46 cs (pointed (cond b (Some (map lower (front is_letter cs))) None))
 dotted_cases cs false test = record { good = λ rules. cc }
-dotted_cases cs true test = record { good = λ rules.
-    let letters = front is_letter cs in
-    let w = map lower letters in
-    let rest = drop 1 (behind_front is_letter cs) in
-    let written = letters ++ 46 ∷ [] in
-    let point : behind_front is_letter cs ≡ 46 ∷ rest = begun_by 46 (behind_front is_letter cs) (second (not (is_nil letters)) (begins_with 46 (behind_front is_letter cs)) test) in
-    let apart : cs ≡ written ++ rest = front_behind is_letter cs ∙ ap (λ l. letters ++ l) point ∙ sym (append_assoc letters (46 ∷ []) rest) in
-    let count : length written ≡ length w + 1 = omega (arith, length_push letters 46, length-map letters lower) in
-    let spelled : SpellsDotted w (46 ∷ written) rest = (record { letters = letters; is = refl; names = front_passes is_letter cs; lowered = refl; word = no_rule (is_dotted w) 10 rules }) in
-    subst (λ l. SpellsDotted w (46 ∷ take (length w + 1) l) (drop (length w + 1) l)) (sym apart)
-    (subst (λ l. SpellsDotted w (46 ∷ l) (drop (length w + 1) (written ++ rest))) (sym (take_at written rest _ count))
-    (subst (λ l. SpellsDotted w (46 ∷ written) l) (sym (drop_at written rest _ count)) spelled)) }
+dotted_cases cs true test = record {
+  good = λ rules.
+      let letters = front is_letter cs in
+      let w = map lower letters in
+      let rest = drop 1 (behind_front is_letter cs) in
+      let written = letters ++ 46 ∷ [] in
+      let point : behind_front is_letter cs ≡ 46 ∷ rest = begun_by 46 (behind_front is_letter cs) (second (not (is_nil letters)) (begins_with 46 (behind_front is_letter cs)) test) in
+      let apart : cs ≡ written ++ rest = front_behind is_letter cs ∙ ap (λ l. letters ++ l) point ∙ sym (append_assoc letters (46 ∷ []) rest) in
+      let count : length written ≡ length w + 1 = omega (arith, length_push letters 46, length-map letters lower) in
+      let spelled : SpellsDotted w (46 ∷ written) rest = (record { letters = letters; is = refl; names = front_passes is_letter cs; lowered = refl; word = no_rule (is_dotted w) 10 rules }) in
+      subst (λ l. SpellsDotted w (46 ∷ take (length w + 1) l) (drop (length w + 1) l)) (sym apart)
+      (subst (λ l. SpellsDotted w (46 ∷ l) (drop (length w + 1) (written ++ rest))) (sym (take_at written rest _ count))
+      (subst (λ l. SpellsDotted w (46 ∷ written) l) (sym (drop_at written rest _ count)) spelled));
+}
 
 point_good : (cs : List ℕ) → IsGood 46 cs (pointed (word_to_point cs))
 point_good cs = dotted_cases cs (not (is_nil (front is_letter cs)) && begins_with 46 (behind_front is_letter cs)) refl

@@ -77,7 +77,7 @@ pub number_found : (c : ℕ) (w rest : List ℕ) → is_digit c ≡ true → All
 number_found c w rest e all none apart small =
     let start : 0 * 10 + (c - 48) ≡ c - 48 = omega arith in
     let value : integer (value_from (c - 48) w) ≡ Some (pos (value_from 0 (c ∷ w))) =
-        ap (λ n. integer (value_from n w)) (sym start) ∙ integer_is (value_from 0 (c ∷ w)) small in
+    ap (λ n. integer (value_from n w)) (sym start) ∙ integer_is (value_from 0 (c ∷ w)) small in
     let count : length w + taken rest ≡ length w = omega (arith, taken_none rest apart) in
     digit_found c (w ++ rest) e
     ∙ ap (λ l. found (lexeme.Number (integer (value_from (c - 48) l)) (clings (behind_front is_digit (w ++ rest)))) (length l + taken (behind_front is_digit (w ++ rest)))) (front_is is_digit w rest all none)
@@ -131,7 +131,7 @@ pub text_found : (d : ℕ) (bytes rest : List ℕ) → is_delimiter d ≡ true �
 text_found d bytes rest e inside none =
     let feed : d == 10 ≡ false = grind (arith, nat_tests) in
     let all : literal d false ((doubled d bytes ++ d ∷ []) ++ rest) ≡ closed_text bytes (length (doubled d bytes) + 1) =
-        ap (literal d false) (append_assoc (doubled d bytes) (d ∷ []) rest) ∙ literal_is d bytes rest feed inside none in
+    ap (literal d false) (append_assoc (doubled d bytes) (d ∷ []) rest) ∙ literal_is d bytes rest feed inside none in
     delimiter_found d ((doubled d bytes ++ d ∷ []) ++ rest) e
     ∙ ap (λ t. found (text_lexeme t) t.taken) all
     ∙ ap (λ n. found (lexeme.Text bytes) n) (sym (length_push (doubled d bytes) d))
@@ -169,7 +169,7 @@ no_longer m other c e d ds false test one two longest = test
 no_longer m other c e d ds true test one two longest =
     let same : d ≡ e = grind (arith, nat_tests) in
     let begun : symbol_text m ++ (d ∷ ds) ≡ symbol_text other ++ ds =
-        ap (λ s. s ++ (d ∷ ds)) one ∙ ap (λ x. c ∷ x ∷ ds) same ∙ sym (ap (λ s. s ++ ds) two) in
+    ap (λ s. s ++ (d ∷ ds)) one ∙ ap (λ x. c ∷ x ∷ ds) same ∙ sym (ap (λ s. s ++ ds) two) in
     absurd (omega (arith, longest other ds begun, ap length one, ap length two))
 
 alone : (m : Mark) (c : ℕ) (rest : List ℕ) → symbol_text m ≡ c ∷ [] → found_at c rest ≡ found (lexeme.Symbol m) 0 → IsFound (lexeme.Symbol m) (symbol_text m) rest

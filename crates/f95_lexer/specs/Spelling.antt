@@ -121,7 +121,7 @@ IsGap gap = AllPass is_blank (bytes_of gap)
 pub data Spelled : List Character → List Item → Type 0 where
   nothing : (gap : List Character) → IsGap gap → Spelled gap []
   next : (gap written rest : List Character) {i : Item} {items : List Item} →
-    IsGap gap → Spells i written (bytes_of rest) → Spelled rest items → Spelled (gap ++ (written ++ rest)) (i ∷ items)
+      IsGap gap → Spells i written (bytes_of rest) → Spelled rest items → Spelled (gap ++ (written ++ rest)) (i ∷ items)
 
 -- The bytes cut into these statements, with so many line feeds: the file isn't too long, no line is, continuations and
 -- texts are whole, and what the lines leave spells the tokens of the statements.

@@ -6,11 +6,13 @@
 
 mod character;
 mod gather;
+mod laws;
 mod lexeme;
 mod read;
 mod splice;
 mod token;
 
+pub use laws::{cuts_unbroken, one_cut};
 pub use read::read_statements;
 pub use token::{Mark, Statement, Statements, Token};
 

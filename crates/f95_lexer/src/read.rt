@@ -1,6 +1,7 @@
 ghost use Rattle.std.specs.Prelude.{◌≡◌, ◌≤◌, ℕ, [], length, None, IfOk, IfErr, OnOk};
 ghost use Rattle.f95_lexer.specs.Lines.{feeds_of};
 ghost use Rattle.f95_lexer.specs.Statements.{statements_of, items_of, lexemes_of};
+ghost use Rattle.f95_lexer.specs.Spelling.{Cuts};
 ghost use Rattle.f95_lexer.specs.Rules.{comes_first, first_from, first_of, breaks_of, IsBroken, Refuses, RefusesBy};
 
 use crate::character::Break;
@@ -72,10 +73,9 @@ fn read(alloc: Global, bytes: &[u8]) -> Result<Statements, PhaseError>
 /// The statements of a text, each on the line of its first token, with all comments and continuations taken away.
 /// A refusal says the first line on which a rule of this phase is broken, and the least rule that is broken there.
 pub fn read_statements(alloc: Global, bytes: &[u8]) -> Result<Statements, PhaseError>
+    ensures cut { IfOk result (λ s. Cuts bytes.now s.list s.feeds) }
     ensures unbroken { OnOk result ((line rule : ℕ) → IsBroken bytes.now line rule → ⊥) }
     ensures refused { IfErr result (Refuses bytes.now) }
-    ensures list { IfOk result (λ s. s.list ≡ statements_of (items_of (lexemes_of bytes.now))) }
-    ensures feeds { IfOk result (λ s. s.feeds ≡ feeds_of bytes.now) }
 {
     if bytes.len() > LONGEST_FILE {
         return Err(PhaseError::Broken {
