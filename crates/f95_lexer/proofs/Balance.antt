@@ -1,23 +1,15 @@
 -- Where continuations are whole, each text that begins in the spliced characters is closed: lines and tokens agree on texts.
-use Rattle.std.proofs.Common.{◌≡◌, ℕ, zero, suc, ◌+◌, ◌-◌, ◌<◌, ◌≤◌, Bool, true, false, ◌&&◌, ◌||◌, ◌==◌, not, nat_lt, nat_le, cond, List, [], ◌∷◌, ◌++◌, length, map, take, drop, Option, Some, None, is_some, refl, sym, ap, ◌∙◌, subst, append_assoc, add-one, arith}
+use Rattle.std.proofs.Common.{◌≡◌, ℕ, ◌+◌, Bool, true, false, ◌&&◌, ◌||◌, ◌==◌, not, cond, List, [], ◌∷◌, length, map, drop, Option, Some, None, is_some, refl, sym, ap, ◌∙◌, subst, add-one, arith}
 use Rattle.std.proofs.lemmas.Bool.Decides.{nat_tests}
-use Rattle.std.proofs.lemmas.List.{length_push, length-map, drop-drop, drop_at, map-append}
-use Rattle.f95_lexer.specs.declared.character.Character.{Character}
-use Rattle.f95_lexer.specs.declared.character.Break.{Break}
-use Rattle.f95_lexer.specs.declared.lexeme.Lexeme.{Lexeme}
+use Rattle.std.proofs.lemmas.List.{length-map, drop-drop}
 use Rattle.f95_lexer.specs.declared.lexeme.Lexeme.TheVariants as lexeme
 use Rattle.f95_lexer.specs.declared.lexeme.Found.{Found}
 use Rattle.f95_lexer.specs.declared.token.Mark.{Mark}
-use Rattle.f95_lexer.specs.declared.splice.Mode.{Mode}
-use Rattle.f95_lexer.specs.declared.splice.Mode.TheVariants.{Fresh, Goes, Inside}
 use Rattle.f95_lexer.specs.Characters.{is_blank, is_letter, is_digit, is_name, is_delimiter, lower}
-use Rattle.f95_lexer.specs.Lines.{onto, begins_with_feed, lines_of}
-use Rattle.f95_lexer.specs.Splicing.{Spliced, ends, put, close, breaks_rule, all_broken, fortieth, broken_at, scan, begun, line_read, from_blank, is_comment, is_empty, opened, kept, after, too_long, splice, spliced, unfinished, line_breaks}
-use Rattle.f95_lexer.specs.Lexeme.{bytes_of, front, behind_front, is_nil, begins_with, found, found_at, word_at, word_to_point, pointed, taken, number_at, Literal, literal, one_more, holds, ended, text_at, text_lexeme, symbol, symbol_at, symbol_of_one, symbol_of_two, longer_or}
-use Rattle.f95_lexer.specs.Spelling.{AllPass, is_inside}
-use Rattle.f95_lexer.proofs.Members.{Each}
+use Rattle.f95_lexer.specs.Splicing.{opened, kept}
+use Rattle.f95_lexer.specs.Lexeme.{front, behind_front, is_nil, begins_with, found_at, word_at, word_to_point, pointed, taken, number_at, Literal, literal, text_at, symbol, symbol_at, symbol_of_one, symbol_of_two, longer_or}
 use Rattle.f95_lexer.proofs.Written.{skip, stay}
-use Rattle.f95_lexer.proofs.Unwritten.{drop_front, front_behind, begun_by, second}
+use Rattle.f95_lexer.proofs.Unwritten.{drop_front, begun_by, second}
 
 -- each text that is open, or begins, is closed before its statement ends
 abbrev pub balanced : Option ℕ → List ℕ → Bool

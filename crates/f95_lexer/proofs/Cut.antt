@@ -1,22 +1,21 @@
 -- A text cuts into statements exactly where no rule is broken, and in one way.
-use Rattle.std.proofs.Common.{◌≡◌, ℕ, ℤ, zero, suc, ◌+◌, ◌≤◌, Bool, true, false, List, [], ◌∷◌, ◌++◌, length, map, take, drop, Option, Some, None, Result, Ok, Err, IfOk, ◌<◌, refl, sym, ap, ◌∙◌, subst, inl, inr, ⊎_elim, arith}
+use Rattle.std.proofs.Common.{◌≡◌, ℕ, zero, suc, ◌≤◌, true, List, [], ◌∷◌, ◌++◌, length, map, take, drop, Some, None, Result, Ok, Err, IfOk, ◌<◌, refl, sym, ap, ◌∙◌, subst, inl, ⊎_elim}
 use Rattle.std.proofs.lemmas.Bool.{cases_lt}
 use Rattle.std.proofs.lemmas.List.{take-map, drop-map, take-append-drop}
 use Rattle.f95_lexer.specs.declared.character.Character.{Character}
 use Rattle.f95_lexer.specs.declared.character.Break.{Break}
 use Rattle.f95_lexer.specs.declared.lexeme.Lexeme.{Lexeme}
 use Rattle.f95_lexer.specs.declared.lexeme.Lexeme.TheVariants as lexeme
-use Rattle.f95_lexer.specs.declared.lexeme.Found.{Found}
 use Rattle.f95_lexer.specs.declared.token.Statement.{Statement}
 use Rattle.f95_lexer.specs.Characters.{is_blank}
 use Rattle.f95_lexer.specs.Lexeme.{bytes_of, found_at}
 use Rattle.f95_lexer.specs.Lines.{feeds_of}
-use Rattle.f95_lexer.specs.Splicing.{broken_at, spliced, line_breaks, opened}
-use Rattle.f95_lexer.specs.Statements.{Item, Ends, Stands, Placed, items_at, items_of, rules_of, token_breaks, lexemes_behind, lexemes_of, statements_of}
+use Rattle.f95_lexer.specs.Splicing.{broken_at, spliced, line_breaks}
+use Rattle.f95_lexer.specs.Statements.{Item, Ends, items_at, items_of, rules_of, token_breaks, lexemes_behind, lexemes_of, statements_of}
 use Rattle.f95_lexer.specs.Rules.{Has, IsBroken, long_file, breaks_of}
 use Rattle.f95_lexer.specs.declared.token.Statements.{Statements}
 use Rattle.a95_base.specs.declared.source.PhaseError.{PhaseError}
-use Rattle.f95_lexer.specs.Spelling.{IsGap, Spells, Spelled, nothing, next, Cuts}
+use Rattle.f95_lexer.specs.Spelling.{Spelled, nothing, next, Cuts}
 use Rattle.f95_lexer.proofs.Balance.{balanced, found_kept}
 use Rattle.f95_lexer.proofs.Continued.{whole_balanced, left_empty, right_empty}
 use Rattle.f95_lexer.proofs.Judging.{nothing_broken, listed_is_broken}

@@ -1,5 +1,5 @@
 -- Reading items one after the other, and reading them from the last back.
-use Rattle.std.proofs.Common.{◌≡◌, ℕ, suc, zero, ◌+◌, List, [], ◌∷◌, ◌++◌, drop, map, length, length-drop, ◌≤◌, refl, sym, ap, ◌∙◌, append_assoc, append-nil, arith}
+use Rattle.std.proofs.Common.{◌≡◌, ℕ, suc, zero, List, [], ◌∷◌, ◌++◌, drop, map, length, length-drop, ◌≤◌, refl, sym, ap, ◌∙◌, append_assoc, append-nil, arith}
 use Rattle.f95_lexer.specs.declared.character.Character.{Character}
 use Rattle.f95_lexer.specs.declared.token.Token.{Token}
 use Rattle.f95_lexer.specs.declared.token.Statement.{Statement}

@@ -1,5 +1,5 @@
 -- The rules of refusal, and the one list of what is broken.
-use Rattle.std.proofs.Common.{◌≡◌, ℕ, zero, suc, ℤ, ◌+◌, ◌<◌, ◌≤◌, ◌⊎◌, Bool, true, false, nat_lt, cond, List, [], ◌∷◌, ◌++◌, length, map, Option, Some, None, Result, Ok, Err, IfOk, IfErr, OnOk, refl, sym, ap, subst, inl, inr, ⊎_elim, arith}
+use Rattle.std.proofs.Common.{◌≡◌, ℕ, zero, suc, ℤ, ◌<◌, ◌≤◌, ◌⊎◌, Bool, true, false, nat_lt, cond, List, [], ◌∷◌, length, map, Option, Some, None, Result, Ok, Err, IfOk, IfErr, OnOk, refl, sym, ap, subst, inl, inr, ⊎_elim, arith}
 use Rattle.std.proofs.lemmas.Bool.{cases_lt}
 use Rattle.std.proofs.lemmas.Bool.Decides.{nat_tests}
 use Rattle.f95_lexer.specs.declared.character.Character.{Character}
@@ -14,9 +14,9 @@ use Rattle.f95_lexer.specs.Rules.{Has, IsLine, Stands, BreaksInLines, IsBroken, 
 use Rattle.f95_lexer.specs.Rules as rules_of_phase
 use Rattle.a95_base.specs.declared.source.PhaseError.{PhaseError}
 use Rattle.a95_base.specs.declared.source.PhaseError.TheVariants.{Memory, Broken}
-use Rattle.f95_lexer.proofs.Members.{From, from_flat, into_flat, Mapped, from_map, into_map, has_left, has_right, has_either, Each, each_has}
-use Rattle.f95_lexer.proofs.First.{IsFirst, Before, first_of_is}
-use Rattle.f95_lexer.proofs.InLines.{IsContinuationBreak, IsLongLine, IsLineBreak, IsCounted, text_counted, line_break_is, long_line_broken}
+use Rattle.f95_lexer.proofs.Members.{from_flat, into_flat, from_map, into_map, has_left, has_right, has_either, Each, each_has}
+use Rattle.f95_lexer.proofs.First.{first_of_is}
+use Rattle.f95_lexer.proofs.InLines.{IsContinuationBreak, IsLongLine, IsCounted, text_counted, line_break_is, long_line_broken}
 
 -- A lexeme that stands somewhere, and a rule that it breaks.
 

@@ -1,5 +1,5 @@
 -- A text that is spelled by some items is read as these items, and breaks no rule of tokens.
-use Rattle.std.proofs.Common.{◌≡◌, ℕ, ℤ, pos, zero, suc, ◌+◌, ◌<◌, ◌≤◌, Bool, true, false, nat_lt, cond, List, [], ◌∷◌, ◌++◌, length, map, Option, Some, None, refl, sym, ap, ◌∙◌, subst, append_assoc, append-nil, arith}
+use Rattle.std.proofs.Common.{◌≡◌, ℕ, ℤ, pos, ◌<◌, ◌≤◌, true, false, nat_lt, cond, List, [], ◌∷◌, ◌++◌, length, map, Some, refl, sym, ap, ◌∙◌, subst, append-nil, arith}
 use Rattle.std.proofs.lemmas.Bool.Decides.{nat_tests}
 use Rattle.std.proofs.lemmas.List.{length-map, map-append}
 use Rattle.f95_lexer.specs.declared.character.Character.{Character}
@@ -13,7 +13,7 @@ use Rattle.f95_lexer.specs.Lexeme.{bytes_of, found, found_at, is_dotted, value_f
 use Rattle.f95_lexer.specs.declared.token.Mark.{Mark}
 use Rattle.f95_lexer.specs.Splicing.{broken_at}
 use Rattle.f95_lexer.specs.Statements.{Item, Ends, Stands, items_at, items_of, rules_of, token_breaks, lexemes_behind}
-use Rattle.f95_lexer.specs.Spelling.{IsGap, Spells, SpellsToken, SpellsWord, SpellsNumber, SpellsText, SpellsDotted, SpellsMark, BeginsOn, Spelled, nothing, next, doubled, symbol_text}
+use Rattle.f95_lexer.specs.Spelling.{IsGap, Spells, SpellsToken, SpellsWord, SpellsNumber, SpellsText, SpellsDotted, SpellsMark, Spelled, nothing, next, doubled, symbol_text}
 use Rattle.f95_lexer.proofs.Written.{IsFound, word_found, number_found, text_found, dotted_found, mark_found, IsLongest, stay}
 
 -- a lexeme that breaks no rule, and is this item

@@ -1,5 +1,5 @@
 -- What is found without a broken rule is written there as a token, the longest that begins there.
-use Rattle.std.proofs.Common.{◌≡◌, ℕ, ℤ, pos, zero, suc, ◌+◌, ◌-◌, ◌*◌, ◌<◌, ◌≤◌, Bool, true, false, ◌&&◌, ◌||◌, ◌==◌, not, nat_lt, nat_le, cond, List, [], ◌∷◌, ◌++◌, length, map, take, drop, Option, Some, None, refl, sym, ap, ◌∙◌, subst, arith}
+use Rattle.std.proofs.Common.{◌≡◌, ℕ, pos, suc, ◌+◌, ◌-◌, ◌*◌, ◌<◌, ◌≤◌, Bool, true, false, ◌&&◌, ◌==◌, not, nat_lt, cond, List, [], ◌∷◌, ◌++◌, length, map, take, drop, Option, Some, None, refl, sym, ap, ◌∙◌, subst, arith}
 use Rattle.std.proofs.lemmas.Bool.Decides.{nat_tests}
 use Rattle.std.proofs.lemmas.List.{length_push, length-map, length-append, take_at, drop_at, append_assoc}
 use Rattle.f95_lexer.specs.declared.lexeme.Lexeme.{Lexeme}
@@ -8,8 +8,8 @@ use Rattle.f95_lexer.specs.declared.lexeme.Found.{Found}
 use Rattle.f95_lexer.specs.declared.token.Mark.{Mark}
 use Rattle.f95_lexer.specs.declared.token.Mark.TheVariants as mark
 use Rattle.f95_lexer.specs.Characters.{is_blank, is_letter, is_digit, is_name, is_delimiter, lower}
-use Rattle.f95_lexer.specs.Lexeme.{front, behind_front, is_nil, begins_with, found, found_at, word_at, word_to_point, pointed, value_from, integer, clings, taken, is_dotted, number_at, Literal, literal, one_more, holds, ended, text_at, text_lexeme, symbol, symbol_at, symbol_of_one, symbol_of_two, longer_or}
-use Rattle.f95_lexer.specs.Statements.{rules_of, if_clings}
+use Rattle.f95_lexer.specs.Lexeme.{front, behind_front, is_nil, begins_with, found, found_at, word_at, word_to_point, pointed, value_from, clings, taken, is_dotted, number_at, Literal, literal, text_at, symbol, symbol_at, symbol_of_one, symbol_of_two, longer_or}
+use Rattle.f95_lexer.specs.Statements.{rules_of}
 use Rattle.f95_lexer.specs.Spelling.{AllPass, begins, SpellsWord, SpellsNumber, SpellsText, SpellsDotted, SpellsMark, doubled, is_inside, symbol_text}
 use Rattle.f95_lexer.proofs.Written.{skip, stay, taken_none, same_one}
 

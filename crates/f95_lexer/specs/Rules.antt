@@ -8,7 +8,7 @@ use Rattle.f95_lexer.specs.declared.lexeme.Lexeme.TheVariants as lexeme
 use Rattle.f95_lexer.specs.Lexeme.{is_dotted}
 use Rattle.f95_lexer.specs.Lines.{lines_of}
 use Rattle.f95_lexer.specs.Splicing.{broken_at, line_breaks}
-use Rattle.f95_lexer.specs.Statements.{Placed, lexemes_of, token_breaks}
+use Rattle.f95_lexer.specs.Statements.{lexemes_of, token_breaks}
 
 -- x is one of them
 abbrev pub Has : {A : Type 0} → A → List A → Type 0

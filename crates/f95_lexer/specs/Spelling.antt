@@ -1,5 +1,5 @@
 -- How statements are written: gaps of blanks and spellings of tokens in turn, each spelling the longest that begins at its place.
-use Rattle.std.specs.Prelude.{◌≡◌, ◌≢◌, ℕ, ℤ, pos, ◌+◌, ◌<◌, ◌≤◌, Bool, true, false, cond, not, ◌==◌, List, [], ◌∷◌, ◌++◌, length, map, codes}
+use Rattle.std.specs.Prelude.{◌≡◌, ℕ, ℤ, pos, ◌<◌, ◌≤◌, Bool, true, false, cond, not, ◌==◌, List, [], ◌∷◌, ◌++◌, length, map, codes}
 use Rattle.f95_lexer.specs.declared.character.Character.{Character}
 use Rattle.f95_lexer.specs.declared.token.Mark.{Mark}
 use Rattle.f95_lexer.specs.declared.token.Mark.TheVariants as mark

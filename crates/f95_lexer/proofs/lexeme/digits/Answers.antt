@@ -1,4 +1,4 @@
-use Rattle.std.proofs.Common.{rules, ◌≡◌, ◌-◌, arith}
+use Rattle.std.proofs.Common.{rules, ◌-◌, arith}
 use Rattle.f95_lexer.specs.Lexeme.{bytes_of, front}
 use Rattle.f95_lexer.specs.Characters.{is_digit}
 use Rattle.f95_lexer.proofs.Capped.{ended, none_left}
