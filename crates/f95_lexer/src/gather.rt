@@ -136,7 +136,6 @@ fn behind(characters: &[Character], count: usize) -> &[Character]
 }
 
 /// The statements of spliced characters, with the rules that they break added to those of the lines.
-
 pub fn gather(alloc: Global, text: &[Character], breaks: Vec<Break>) -> Result<Gatherer, AllocError>
     ensures list { IfOk result (λ g. g.list ≡ statements_of (items_of (lexemes_behind 0 text.now))) }
     ensures breaks { IfOk result (λ g. g.breaks.items ≡ breaks.items ++ token_breaks (lexemes_behind 0 text.now)) }

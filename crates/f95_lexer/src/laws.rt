@@ -5,7 +5,6 @@ ghost use Rattle.f95_lexer.specs.Rules.{IsBroken};
 ghost use Rattle.f95_lexer.specs.Spelling.{Cuts};
 
 /// A text cuts into statements in at most one way.
-
 pub fn one_cut()
     ensures { (bytes : List ℕ) (a b : List Statement) (m n : ℕ) → Cuts bytes a m → Cuts bytes b n → (a ≡ b) × (m ≡ n) }
 {}

@@ -148,7 +148,6 @@ fn one_more(value: u64, digit: u8) -> u64
 }
 
 /// What digits behind a first one write with it, how many they are, and what stands behind them.
-
 fn digits(first: u8, rest: &[Character]) -> (u64, usize, &[Character])
     requires { IsTrue (is_digit first) }
     ensures value { integer result.0 ≡ integer (value_from (first - 48) (front is_digit (bytes_of rest.now))) }
