@@ -41,25 +41,25 @@ BreaksInLines bytes line rule = Has (broken_at line rule) (line_breaks bytes)
 
 -- the bytes break the rule on the line
 pub data IsBroken (bytes : List ℕ) : ℕ → ℕ → Type 0 where
-  -- the file has more than 2^20 bytes
+  -- rule 1: the file has more than 2^20 bytes
   long_file : 1048576 < length bytes → IsBroken bytes 1 1
-  -- outside of comments and texts a byte belongs to nothing
+  -- rule 2: outside of comments and texts a byte belongs to nothing
   stray : {line : ℕ} → Stands bytes line lexeme.Stray → IsBroken bytes line 2
-  -- a line has more than 132 characters
+  -- rule 3: a line has more than 132 characters
   long_line : {line : ℕ} (text : List ℕ) → IsLine bytes line text → 132 < length text → IsBroken bytes line 3
-  -- the line is the 40th continuation line of a statement
+  -- rule 4: the line is the 40th continuation line of a statement
   many_continuations : {line : ℕ} → BreaksInLines bytes line 4 → IsBroken bytes line 4
-  -- a text is neither closed on the line nor continued
+  -- rule 5: a text is neither closed on the line nor continued
   open_text : {line : ℕ} → BreaksInLines bytes line 5 → IsBroken bytes line 5
-  -- a continuation isn't whole
+  -- rule 6: a continuation isn't whole, or a line continues nothing and begins with `&`
   bad_continuation : {line : ℕ} → BreaksInLines bytes line 6 → IsBroken bytes line 6
-  -- a word has more than 31 characters
+  -- rule 7: a word has more than 31 characters
   long_word : {line : ℕ} (w : List ℕ) → Stands bytes line (lexeme.Word w) → 31 < length w → IsBroken bytes line 7
-  -- a number is greater than 2147483647
+  -- rule 8: a number is greater than 2147483647
   large_number : {line : ℕ} (clings : Bool) → Stands bytes line (lexeme.Number None clings) → IsBroken bytes line 8
-  -- a number is directly followed by a letter, an underscore or a point that begins no dotted word
+  -- rule 9: a number is directly followed by a letter, an underscore or a point that begins no dotted word
   number_runs_on : {line : ℕ} (value : Option ℤ) → Stands bytes line (lexeme.Number value true) → IsBroken bytes line 9
-  -- letters stand between two points that are no dotted word
+  -- rule 10: letters stand between two points that are no dotted word
   no_dotted_word : {line : ℕ} (w : List ℕ) → Stands bytes line (lexeme.Pointed w) → is_dotted w ≡ false → IsBroken bytes line 10
 
 -- a line and a rule come before another line and rule, or are the same
@@ -76,7 +76,7 @@ abbrev pub Refuses : List ℕ → PhaseError → Type 0
 Refuses bytes Memory = Unit {0}
 Refuses bytes (Broken line rule) = IsLeast bytes line.0 rule.0
 
--- the same as one list
+-- Below, for the parts of the code: all that the bytes break, but for the length of the file, as one list.
 abbrev pub breaks_of : List ℕ → List Break
 breaks_of bytes = line_breaks bytes ++ token_breaks (lexemes_of bytes)
 

@@ -34,6 +34,14 @@ close line rest = put 10 line rest
 abbrev pub breaks_rule : ℕ → ℕ → Spliced → Spliced
 breaks_rule line r rest = record rest { breaks = broken_at line r ∷ rest.breaks }
 
+-- rule 5: a text is neither closed on the line nor continued
+abbrev pub open_text : ℕ → Spliced → Spliced
+open_text line rest = breaks_rule line 5 rest
+
+-- rule 6: the continuation that begins or stands on the line isn't whole
+abbrev pub bad_continuation : ℕ → Spliced → Spliced
+bad_continuation line rest = breaks_rule line 6 rest
+
 -- the characters from the first that is no blank
 abbrev pub from_blank : List ℕ → List ℕ
 from_blank [] = []
@@ -60,7 +68,7 @@ kept delimiter c = if c == delimiter then None else Some delimiter
 -- left: the 40th continuation line of the statement is so many lines ahead, or 0 once it has passed.
 abbrev pub scan : Option ℕ → ℕ → ℕ → List ℕ → Spliced
 scan None line left [] = close line (ends Fresh)
-scan (Some d) line left [] = breaks_rule line 5 (close line (ends Fresh))
+scan (Some d) line left [] = open_text line (close line (ends Fresh))
 scan None line left (c ∷ cs) =
     if c == 33 then close line (ends Fresh)
     else (if c == 59 then close line (scan None line 40 cs)
@@ -70,7 +78,7 @@ scan (Some d) line left (c ∷ cs) =
     if c == 38 && is_empty (from_blank cs) then ends (Inside d line left)
     else put c line (scan (kept d c) line left cs)
 
--- a statement has a 40th continuation line
+-- rule 4: a statement has a 40th continuation line
 abbrev pub fortieth : ℕ → ℕ → List Break
 fortieth line left = if left == 1 then broken_at line 4 ∷ [] else []
 
@@ -82,14 +90,14 @@ all_broken breaks rest = record rest { breaks = breaks ++ rest.breaks }
 -- with `&` goes on right behind it; another one stands apart by a blank, and can't go on with a text.
 abbrev pub begun : Mode → ℕ → ℕ → List ℕ → Spliced
 begun Fresh line c cs =
-    if c == 38 then breaks_rule line 6 (if is_comment (from_blank cs) then ends (Goes line 40) else scan None line 40 cs)
+    if c == 38 then bad_continuation line (if is_comment (from_blank cs) then ends (Goes line 40) else scan None line 40 cs)
     else scan None line 40 (c ∷ cs)
 begun (Goes from left) line c cs = all_broken (fortieth line left) (
-    if c == 38 then (if is_comment (from_blank cs) then breaks_rule line 6 (ends (Goes line (left - 1))) else scan None line (left - 1) cs)
+    if c == 38 then (if is_comment (from_blank cs) then bad_continuation line (ends (Goes line (left - 1))) else scan None line (left - 1) cs)
     else put 32 line (scan None line (left - 1) (c ∷ cs)))
 begun (Inside d from left) line c cs = all_broken (fortieth line left) (
-    if c == 38 then (if is_empty (from_blank cs) then breaks_rule line 6 (ends (Inside d line (left - 1))) else scan (Some d) line (left - 1) cs)
-    else breaks_rule from 6 (close line (scan None line (left - 1) (c ∷ cs))))
+    if c == 38 then (if is_empty (from_blank cs) then bad_continuation line (ends (Inside d line (left - 1))) else scan (Some d) line (left - 1) cs)
+    else bad_continuation from (close line (scan None line (left - 1) (c ∷ cs))))
 
 -- a line without the blanks at its front: a blank line and a comment are passed over
 abbrev pub line_read : Mode → ℕ → List ℕ → Spliced
@@ -100,7 +108,7 @@ line_read m line (c ∷ cs) = if c == 33 then ends m else begun m line c cs
 abbrev pub behind : List Character → List Break → Spliced → Spliced
 behind text breaks rest = record { text = text ++ rest.text; breaks = breaks ++ rest.breaks; mode = rest.mode }
 
--- a line has more than 132 characters
+-- rule 3: a line has more than 132 characters
 abbrev pub too_long : ℕ → List ℕ → List Break
 too_long line text = if nat_lt 132 (length text) then broken_at line 3 ∷ [] else []
 
@@ -114,7 +122,7 @@ splice m line (text ∷ texts) =
     let first = line_read m line (from_blank text) in
     after (too_long line text) first (splice first.mode (line + 1) texts)
 
--- a continuation that finds no further line
+-- rule 6: a continuation that finds no further line
 abbrev pub unfinished : Mode → List Break
 unfinished Fresh = []
 unfinished (Goes line left) = broken_at line 6 ∷ []
