@@ -4,6 +4,8 @@ use Rattle.f95_lexer.specs.declared.character.Character.{Character}
 use Rattle.f95_lexer.specs.declared.character.Break.{Break}
 use Rattle.f95_lexer.specs.declared.splice.Mode.{Mode}
 use Rattle.f95_lexer.specs.declared.splice.Mode.TheVariants.{Fresh, Goes, Inside}
+use Rattle.f95_lexer.specs.declared.splice.Next.{Next}
+use Rattle.f95_lexer.specs.declared.splice.Next.TheVariants as following
 use Rattle.f95_lexer.specs.Characters.{is_blank, is_delimiter}
 use Rattle.f95_lexer.specs.Lines.{lines_of}
 
@@ -77,6 +79,11 @@ scan None line left (c ∷ cs) =
 scan (Some d) line left (c ∷ cs) =
     if c == 38 && is_empty (from_blank cs) then ends (Inside d line left)
     else put c line (scan (kept d c) line left cs)
+
+-- for a part of the code: a line after one of its characters
+abbrev pub scanned : Next → ℕ → List ℕ → Spliced
+scanned (following.Ends m) line cs = ends m
+scanned (following.Goes inside left) line cs = scan inside line left cs
 
 -- rule 4: a statement has a 40th continuation line
 abbrev pub fortieth : ℕ → ℕ → List Break

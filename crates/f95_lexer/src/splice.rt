@@ -1,5 +1,5 @@
 ghost use Rattle.std.specs.Prelude.{◌≡◌, ◌+◌, ◌-◌, ◌++◌, ◌∷◌, ◌<◌, ◌≤◌, ◌^◌, [], length, IfOk, OnOk};
-ghost use Rattle.f95_lexer.specs.Splicing.{Spliced, from_blank, is_comment, is_empty, opened, kept, character, broken_at, scan, begun, line_read, behind, fortieth, spliced, line_breaks, too_long, unfinished};
+ghost use Rattle.f95_lexer.specs.Splicing.{Spliced, from_blank, is_comment, is_empty, opened, kept, character, broken_at, scan, scanned, begun, line_read, behind, fortieth, spliced, line_breaks, too_long, unfinished};
 ghost use Rattle.f95_lexer.specs.Lines.{lines_of};
 
 use crate::character::{Break, Character, is_blank, is_delimiter};
@@ -18,6 +18,15 @@ pub enum Mode {
     Goes { line: u32, left: u8 },
     /// A text with that delimiter goes on.
     Inside { delimiter: u8, line: u32, left: u8 },
+}
+
+/// What a character leaves of the rest of its line.
+#[derive(Clone, Copy)]
+pub enum Next {
+    /// The line ends so.
+    Ends(Mode),
+    /// The rest is outside of texts or inside of one, so many lines ahead of the 40th continuation line.
+    Goes(Option<u8>, u8),
 }
 
 /// The characters and the broken rules so far.
@@ -90,6 +99,50 @@ impl Splicer {
         Ok(())
     }
 
+    /// A character outside of texts, before `more`.
+    fn outside(&mut self, line: u32, left: u8, c: u8, more: &[u8]) -> Result<Next, AllocError>
+        ensures { IfOk result (λ next. behind self.old.text.items self.old.breaks.items (scan None line left (c ∷ more.now))
+            ≡ behind self.new.text.items self.new.breaks.items (scanned next line more.now)) }
+    {
+        if c == b'!' {
+            self.put(b'\n', line)?;
+            return Ok(Next::Ends(Mode::Fresh));
+        }
+        if c == b'&' && is_comment(more) {
+            return Ok(Next::Ends(Mode::Goes { line, left }));
+        }
+        if c == b';' {
+            self.put(b'\n', line)?;
+            return Ok(Next::Goes(None, CONTINUATIONS));
+        }
+        self.put(c, line)?;
+        Ok(Next::Goes(opened(c), left))
+    }
+
+    /// A character of a text with that delimiter, before `more`.
+    fn within(
+        &mut self,
+        delimiter: u8,
+        line: u32,
+        left: u8,
+        c: u8,
+        more: &[u8],
+    ) -> Result<Next, AllocError>
+        ensures { IfOk result (λ next. behind self.old.text.items self.old.breaks.items (scan (Some delimiter) line left (c ∷ more.now))
+            ≡ behind self.new.text.items self.new.breaks.items (scanned next line more.now)) }
+    {
+        if c == b'&' && is_empty(more) {
+            return Ok(Next::Ends(Mode::Inside {
+                delimiter,
+                line,
+                left,
+            }));
+        }
+        self.put(c, line)?;
+        Ok(Next::Goes(kept(delimiter, c), left))
+    }
+
+    /// The rest of a line, outside of texts or inside of one.
     fn scan(
         &mut self,
         mut inside: Option<u8>,
@@ -102,33 +155,15 @@ impl Splicer {
     {
         let mut rest = text;
         while let [c, more @ ..] = rest {
-            match inside {
-                None => {
-                    if *c == b'!' {
-                        self.put(b'\n', line)?;
-                        return Ok(Mode::Fresh);
-                    }
-                    if *c == b'&' && is_comment(more) {
-                        return Ok(Mode::Goes { line, left });
-                    }
-                    if *c == b';' {
-                        self.put(b'\n', line)?;
-                        left = CONTINUATIONS;
-                    } else {
-                        self.put(*c, line)?;
-                        inside = opened(*c);
-                    }
-                }
-                Some(delimiter) => {
-                    if *c == b'&' && is_empty(more) {
-                        return Ok(Mode::Inside {
-                            delimiter,
-                            line,
-                            left,
-                        });
-                    }
-                    self.put(*c, line)?;
-                    inside = kept(delimiter, *c);
+            let next = match inside {
+                None => self.outside(line, left, *c, more)?,
+                Some(delimiter) => self.within(delimiter, line, left, *c, more)?,
+            };
+            match next {
+                Next::Ends(mode) => return Ok(mode),
+                Next::Goes(open, ahead) => {
+                    inside = open;
+                    left = ahead;
                 }
             }
             rest = more;

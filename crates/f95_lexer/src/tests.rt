@@ -1,6 +1,7 @@
 //! The rules of lines and tokens at their edges. An outcome is written as text: each statement with its line, or the
 //! rule and its line.
 
+use crate::laws::{cuts_unbroken, one_cut};
 use crate::read::read_statements;
 use crate::token::{Mark, Statements, Token};
 use a95_base::PhaseError;
@@ -223,5 +224,7 @@ fn limits(rt: HostRuntime) -> Result<(), Fail> {
     let source = repeated(rt.alloc(), "a\n", "\n", 7, "b")?;
     let statements = read_statements(rt.alloc(), source.as_bytes()).ok();
     assert_eq!(rt; statements.map(|s| s.feeds), Some(8));
+    one_cut();
+    cuts_unbroken();
     Ok(())
 }
