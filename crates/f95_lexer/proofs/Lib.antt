@@ -1,0 +1,13 @@
+mod Balance
+mod Capped
+mod Continued
+mod Cut
+mod Cutting
+mod First
+mod Gathering
+mod InLines
+mod Judging
+mod Members
+mod Spellings
+mod Unwritten
+mod Written

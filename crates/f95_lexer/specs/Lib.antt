@@ -1,0 +1,7 @@
+pub mod Characters
+pub mod Lines
+pub mod Splicing
+pub mod Lexeme
+pub mod Statements
+pub mod Rules
+pub mod Spelling

@@ -1,0 +1,97 @@
+-- The ten rules of refusal of this phase, each with the line on which it is broken.
+use Rattle.std.specs.Prelude.{◌≡◌, ℕ, ℤ, ◌+◌, ◌<◌, ◌≤◌, ◌⊎◌, ◌==◌, ◌&&◌, ◌||◌, nat_lt, nat_le, if◌then◌else◌, Some, Bool, true, false, List, [], ◌∷◌, ◌++◌, length, Option, None}
+use Rattle.a95_base.specs.declared.source.PhaseError.{PhaseError}
+use Rattle.a95_base.specs.declared.source.PhaseError.TheVariants.{Memory, Broken}
+use Rattle.f95_lexer.specs.declared.character.Break.{Break}
+use Rattle.f95_lexer.specs.declared.lexeme.Lexeme.{Lexeme}
+use Rattle.f95_lexer.specs.declared.lexeme.Lexeme.TheVariants as lexeme
+use Rattle.f95_lexer.specs.Lexeme.{is_dotted}
+use Rattle.f95_lexer.specs.Lines.{lines_of}
+use Rattle.f95_lexer.specs.Splicing.{broken_at, line_breaks}
+use Rattle.f95_lexer.specs.Statements.{lexemes_of, token_breaks}
+
+-- x is one of them
+abbrev pub Has : {A : Type 0} → A → List A → Type 0
+Has x [] = ⊥
+Has x (y ∷ ys) = (x ≡ y) ⊎ Has x ys
+
+-- a line with its number
+pub record Numbered : Type 0 where
+  pub line : ℕ
+  pub text : List ℕ
+
+abbrev pub numbered : ℕ → List ℕ → Numbered
+numbered line text = record { line = line; text = text }
+
+abbrev pub numbered_from : ℕ → List (List ℕ) → List Numbered
+numbered_from n [] = []
+numbered_from n (text ∷ texts) = numbered n text ∷ numbered_from (n + 1) texts
+
+-- this is that line of the text
+abbrev pub IsLine : List ℕ → ℕ → List ℕ → Type 0
+IsLine bytes line text = Has (numbered line text) (numbered_from 1 (lines_of bytes))
+
+-- this begins on that line
+abbrev pub Stands : List ℕ → ℕ → Lexeme → Type 0
+Stands bytes line l = Has (record { line = line; lexeme = l }) (lexemes_of bytes)
+
+-- Splicing says on which lines rules 4, 5 and 6 are broken.
+abbrev pub BreaksInLines : List ℕ → ℕ → ℕ → Type 0
+BreaksInLines bytes line rule = Has (broken_at line rule) (line_breaks bytes)
+
+-- the bytes break the rule on the line
+pub data IsBroken (bytes : List ℕ) : ℕ → ℕ → Type 0 where
+  -- rule 1: the file has more than 2^20 bytes
+  long_file : 1048576 < length bytes → IsBroken bytes 1 1
+  -- rule 2: outside of comments and texts a byte belongs to nothing
+  stray : {line : ℕ} → Stands bytes line lexeme.Stray → IsBroken bytes line 2
+  -- rule 3: a line has more than 132 characters
+  long_line : {line : ℕ} (text : List ℕ) → IsLine bytes line text → 132 < length text → IsBroken bytes line 3
+  -- rule 4: the line is the 40th continuation line of a statement
+  many_continuations : {line : ℕ} → BreaksInLines bytes line 4 → IsBroken bytes line 4
+  -- rule 5: a text is neither closed on the line nor continued
+  open_text : {line : ℕ} → BreaksInLines bytes line 5 → IsBroken bytes line 5
+  -- rule 6: a continuation isn't whole, or a line continues nothing and begins with `&`
+  bad_continuation : {line : ℕ} → BreaksInLines bytes line 6 → IsBroken bytes line 6
+  -- rule 7: a word has more than 31 characters
+  long_word : {line : ℕ} (w : List ℕ) → Stands bytes line (lexeme.Word w) → 31 < length w → IsBroken bytes line 7
+  -- rule 8: a number is greater than 2147483647
+  large_number : {line : ℕ} (clings : Bool) → Stands bytes line (lexeme.Number None clings) → IsBroken bytes line 8
+  -- rule 9: a number is directly followed by a letter, an underscore or a point that begins no dotted word
+  number_runs_on : {line : ℕ} (value : Option ℤ) → Stands bytes line (lexeme.Number value true) → IsBroken bytes line 9
+  -- rule 10: letters stand between two points that are no dotted word
+  no_dotted_word : {line : ℕ} (w : List ℕ) → Stands bytes line (lexeme.Pointed w) → is_dotted w ≡ false → IsBroken bytes line 10
+
+-- a line and a rule come before another line and rule, or are the same
+abbrev pub ComesFirst : ℕ → ℕ → ℕ → ℕ → Type 0
+ComesFirst line rule other_line other_rule = (line < other_line) ⊎ ((line ≡ other_line) × (rule ≤ other_rule))
+
+-- of all that the bytes break, the first line and on it the least rule
+pub record IsLeast (bytes : List ℕ) (line rule : ℕ) : Type 0 where
+  pub broken : IsBroken bytes line rule
+  pub least : (other_line other_rule : ℕ) → IsBroken bytes other_line other_rule → ComesFirst line rule other_line other_rule
+
+-- what a refusal of these bytes says
+abbrev pub Refuses : List ℕ → PhaseError → Type 0
+Refuses bytes Memory = Unit {0}
+Refuses bytes (Broken line rule) = IsLeast bytes line.0 rule.0
+
+-- Below, for the parts of the code: all that the bytes break, but for the length of the file, as one list.
+abbrev pub breaks_of : List ℕ → List Break
+breaks_of bytes = line_breaks bytes ++ token_breaks (lexemes_of bytes)
+
+-- the first of some breaks
+abbrev pub comes_first : Break → Break → Bool
+comes_first a b = nat_lt a.line b.line || (a.line == b.line && nat_le a.rule b.rule)
+
+abbrev pub first_from : Break → List Break → Break
+first_from b [] = b
+first_from b (c ∷ cs) = first_from (if comes_first b c then b else c) cs
+
+abbrev pub first_of : List Break → Option Break
+first_of [] = None
+first_of (b ∷ bs) = Some (first_from b bs)
+
+abbrev pub RefusesBy : Option Break → PhaseError → Type 0
+RefusesBy first Memory = Unit {0}
+RefusesBy first (Broken line rule) = first ≡ Some (broken_at line.0 rule.0)

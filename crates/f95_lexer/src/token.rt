@@ -1,0 +1,76 @@
+use a95_base::{Bytes, Line};
+use sqlite_items::Items;
+
+/// One symbol.
+#[derive(Clone, Copy, Debug, PartialEq, Eq)]
+pub enum Mark {
+    /// `(`
+    Open,
+    /// `)`
+    Close,
+    /// `(/`
+    OpenArray,
+    /// `/)`
+    CloseArray,
+    /// `,`
+    Comma,
+    /// `:`
+    Colon,
+    /// `::`
+    DoubleColon,
+    /// `=`
+    Assign,
+    /// `==`
+    Equal,
+    /// `/=`
+    NotEqual,
+    /// `<`
+    Less,
+    /// `<=`
+    LessEqual,
+    /// `>`
+    Greater,
+    /// `>=`
+    GreaterEqual,
+    /// `+`
+    Plus,
+    /// `-`
+    Minus,
+    /// `*`
+    Star,
+    /// `**`
+    Power,
+    /// `/`
+    Slash,
+    /// `//`
+    Concat,
+}
+
+/// The smallest part of a statement that has a meaning.
+#[derive(Debug, Drop)]
+pub enum Token {
+    /// A name or a keyword, in lower case.
+    Word(Bytes),
+    Number(i32),
+    /// What stands between the delimiters of a character literal, a doubled delimiter once.
+    Text(Bytes),
+    /// What stands between the two points of a dotted word such as `.EQ.`, in lower case.
+    Dotted(Bytes),
+    Mark(Mark),
+}
+
+/// A statement that isn't empty.
+#[derive(Debug, Drop)]
+pub struct Statement {
+    /// The line of its first token.
+    pub line: Line,
+    pub tokens: Items<Token>,
+}
+
+/// All statements of a text, in its order.
+#[derive(Debug, Drop)]
+pub struct Statements {
+    pub list: Items<Statement>,
+    /// How many line feeds the text has.
+    pub feeds: u32,
+}
