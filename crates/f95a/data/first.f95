@@ -1,0 +1,1 @@
+program p; integer :: a(3); a = 2; print *, a; end

@@ -1,0 +1,14 @@
+pub mod Flat
+pub mod Reaching
+pub mod Rows
+pub mod Cells
+pub mod Turns
+pub mod Sums
+pub mod Elements
+pub mod Loops
+pub mod Actions
+pub mod Statements
+pub mod Whole
+pub mod Both
+pub mod Grammatical
+pub mod Answering

@@ -1,0 +1,149 @@
+-- One step of the machine for each row that is written.
+use Rattle.std.proofs.Common.{◌≡◌, ℕ, zero, suc, ◌+◌, ◌<◌, ◌≤◌, Bool, true, false, List, [], ◌∷◌, ◌++◌, Option, Some, None, Result, Ok, Err, refl, ap, ◌∙◌, sym, subst, arith, ℤ, pos, length, nat_lt, nat_le}
+use Rattle.std.specs.Prelude.{get_or, set, replicate, if◌then◌else◌, ◌+ℤ◌, ◌-ℤ◌, ◌*ℤ◌, int_lt}
+use Rattle.std.specs.Int.{w64, int_wrap}
+use Rattle.a95_base.specs.declared.scalar.Scalar.{Scalar}
+use Rattle.a95_base.specs.declared.scalar.Scalar.TheVariants as scalar
+use Rattle.a95_base.specs.Integer.{wrapped}
+use Rattle.a95_base.specs.Record.{record_text}
+use Rattle.loop_tree.specs.declared.atom.Atom.{Atom}
+use Rattle.loop_tree.specs.declared.atom.Atom.TheVariants as atom
+use Rattle.loop_tree.specs.declared.atom.Operator.TheVariants as operator
+use Rattle.loop_tree.specs.declared.row.Row.{Row}
+use Rattle.loop_tree.specs.declared.row.Row.TheVariants as row
+use Rattle.loop_tree.specs.declared.row.IntValue.TheVariants as int
+use Rattle.loop_tree.specs.declared.row.BlockRow.TheVariants as block
+use Rattle.loop_tree.specs.declared.row.ControlRow.TheVariants as control
+use Rattle.loop_tree.specs.declared.row.RecordRow.TheVariants as record_row
+use Rattle.loop_tree.specs.declared.tree.CodeLine.{CodeLine}
+use Rattle.loop_tree.specs.declared.tree.CodeLine.TheVariants as code
+use Rattle.loop_tree.specs.declared.tree.Function.{Function}
+use Rattle.loop_tree.specs.State.{Brace, Upward, Cells, Ints, Block, Frame, State, End, Ended, Next, Goes, Ends, with_at, cells_at, cells_numbered, with_cells}
+use Rattle.loop_tree.specs.Values.{number_at, block_at, atom_in, and_then, ints_at, int_cell, int_value, operation, place_in, largest, size_within, zeros}
+use Rattle.loop_tree.specs.Machine.{step, step_at, do_line, row_line, int_line, block_line, control_line, at_line, record_line, put_line, new_ints_line, change_line, given, store_int, changed, for_up_line, close_line, leave, begin_loop, again, behind, quiet, turn}
+
+-- what changes in a run of a program of one function, but for the lines that come next and the open braces
+pub record Vars : Type 0 where
+  pub ints : List ℤ
+  pub indices : List ℤ
+  pub references : List (Option ℕ)
+  pub line : ℕ
+  pub blocks : List Block
+  pub made : ℕ
+  pub pending : List Scalar
+  pub input : List ℕ
+
+abbrev pub at : Vars → List CodeLine → List Brace → State
+at v rest braces = record {
+  now = record {
+    rest = rest;
+    braces = braces;
+    ints = v.ints;
+    indices = v.indices;
+    texts = [];
+    int_blocks = v.references;
+    text_blocks = [];
+    line = v.line;
+    mark = 0;
+  };
+  callers = [];
+  blocks = v.blocks;
+  made = v.made;
+  pending = v.pending;
+  input = v.input;
+}
+
+abbrev pub with_int : Vars → ℕ → ℤ → Vars
+with_int v n z = record v { ints = with_at (pos 0) v.ints n z }
+
+abbrev pub with_index : Vars → ℤ → Vars
+with_index v z = record v { indices = with_at (pos 0) v.indices 1 z }
+
+module _ (functions : List Function) (v : Vars) (rest : List CodeLine) (braces : List Brace) where
+  pub step_atom : (n : ℕ) (a : Atom) → step functions (at v (code.Row (row.Int n (int.Atom a)) ∷ rest) braces) ≡ Goes false [] (at (with_int v n (atom_in v.ints v.indices a)) rest braces)
+  unfolding step step_at do_line row_line int_line int_value
+  step_atom n a = refl
+
+  pub step_wrap : (n : ℕ) (a : Atom) → step functions (at v (code.Row (row.Int n (int.Wrap a)) ∷ rest) braces) ≡ Goes false [] (at (with_int v n (wrapped (atom_in v.ints v.indices a))) rest braces)
+  unfolding step step_at do_line row_line int_line int_value
+  step_wrap n a = refl
+
+  pub step_multiply : (n : ℕ) (a b : Atom) → step functions (at v (code.Row (row.Int n (int.Operation a operator.Multiply b)) ∷ rest) braces)
+      ≡ Goes false [] (at (with_int v n (int_wrap w64 (atom_in v.ints v.indices a *ℤ atom_in v.ints v.indices b))) rest braces)
+  unfolding step step_at do_line row_line int_line int_value operation
+  step_multiply n a b = refl
+
+  pub step_add : (n : ℕ) (a b : Atom) → step functions (at v (code.Row (row.Int n (int.Operation a operator.Add b)) ∷ rest) braces)
+      ≡ Goes false [] (at (with_int v n (int_wrap w64 (atom_in v.ints v.indices a +ℤ atom_in v.ints v.indices b))) rest braces)
+  unfolding step step_at do_line row_line int_line int_value operation
+  step_add n a b = refl
+
+  pub step_subtract : (n : ℕ) (a b : Atom) → step functions (at v (code.Row (row.Int n (int.Operation a operator.Subtract b)) ∷ rest) braces)
+      ≡ Goes false [] (at (with_int v n (int_wrap w64 (atom_in v.ints v.indices a -ℤ atom_in v.ints v.indices b))) rest braces)
+  unfolding step step_at do_line row_line int_line int_value operation
+  step_subtract n a b = refl
+
+  -- the value of a cell
+  pub step_cell : (n b : ℕ) (a : Atom) (cells : List ℤ) (z : ℤ) → ints_at v.blocks (block_at v.references b) ≡ Ok cells → int_cell cells (atom_in v.ints v.indices a) ≡ Ok z
+      → step functions (at v (code.Row (row.Int n (int.Cell b a)) ∷ rest) braces) ≡ Goes false [] (at (with_int v n z) rest braces)
+  unfolding step step_at do_line row_line int_line int_value
+  step_cell n b a cells z there value =
+      ap (λ (r : Result (List ℤ) ℕ). given (and_then r (λ c. int_cell c (atom_in v.ints v.indices a))) (λ x. at (with_int v n x) rest braces)) there
+      ∙ ap (λ (r : Result ℤ ℕ). given r (λ x. at (with_int v n x) rest braces)) value
+
+  pub step_line : (n : ℕ) → step functions (at v (code.Row (row.Control (control.At n)) ∷ rest) braces) ≡ Goes false [] (at (record v { line = n }) rest braces)
+  unfolding step step_at do_line row_line control_line at_line
+  step_line n = refl
+
+  abbrev pub with_block : ℕ → ℕ → Vars
+  with_block b n = record v {
+    references = with_at None v.references b (Some v.made);
+    blocks = record { number = v.made; cells = Ints (replicate n (pos 0)) } ∷ v.blocks;
+    made = v.made + 1;
+  }
+
+  pub step_new : (b n : ℕ) → nat_le n largest ≡ true → step functions (at v (code.Row (row.Block (block.New b (atom.Number (pos n)))) ∷ rest) braces) ≡ Goes false [] (at (with_block b n) rest braces)
+  unfolding step step_at do_line row_line block_line new_ints_line
+  step_new b n small = ap (λ (t : Bool). given (and_then (if t then Ok n else Err 5) (λ m. Ok (Ints (replicate m (pos 0)))))
+      (λ cells. at (record v { references = with_at None v.references b (Some v.made); blocks = record { number = v.made; cells = cells } ∷ v.blocks; made = v.made + 1 }) rest braces)) small
+
+  pub step_temp : (b n : ℕ) → nat_le n largest ≡ true → step functions (at v (code.Row (row.Block (block.Temp b (atom.Number (pos n)))) ∷ rest) braces) ≡ Goes false [] (at (with_block b n) rest braces)
+  unfolding step step_at do_line row_line block_line new_ints_line
+  step_temp b n small = ap (λ (t : Bool). given (and_then (if t then Ok n else Err 5) (λ m. Ok (Ints (replicate m (pos 0)))))
+      (λ cells. at (record v { references = with_at None v.references b (Some v.made); blocks = record { number = v.made; cells = cells } ∷ v.blocks; made = v.made + 1 }) rest braces)) small
+
+  -- a store into the block of a reference
+  pub step_store : (b : ℕ) (i a : Atom) (blocks : List Block) → changed v.blocks (block_at v.references b) (store_int (atom_in v.ints v.indices i) (atom_in v.ints v.indices a)) ≡ Ok blocks
+      → step functions (at v (code.Row (row.Block (block.StoreInt b i a)) ∷ rest) braces) ≡ Goes false [] (at (record v { blocks = blocks }) rest braces)
+  unfolding step step_at do_line row_line block_line change_line
+  step_store b i a blocks there = ap (λ (r : Result (List Block) ℕ). given r (λ bs. at (record v { blocks = bs }) rest braces)) there
+
+  pub step_put : (a : Atom) → step functions (at v (code.Row (row.Record (record_row.PutInt a)) ∷ rest) braces)
+      ≡ Goes false [] (at (record v { pending = v.pending ++ scalar.Int (wrapped (atom_in v.ints v.indices a)) ∷ [] }) rest braces)
+  unfolding step step_at do_line row_line record_line put_line
+  step_put a = refl
+
+  pub step_write : step functions (at v (code.Row (row.Record record_row.Write) ∷ rest) braces) ≡ Goes false (record_text v.pending ++ 10 ∷ []) (at (record v { pending = [] }) rest braces)
+  unfolding step step_at do_line row_line record_line
+  step_write = refl
+
+  -- the head of a loop over 0, 1, .., n - 1
+  pub step_up : (n : ℕ) → step functions (at v (code.ForUp 1 (atom.Number (pos n)) ∷ rest) braces)
+      ≡ (if int_lt (number_at (with_at (pos 0) v.indices 1 (pos 0)) 1) (pos n)
+      then turn (at (with_index v (pos 0)) rest (Upward 1 (atom.Number (pos n)) rest ∷ braces))
+      else quiet (at (with_index v (pos 0)) (behind rest) braces))
+  unfolding step step_at do_line for_up_line
+  step_up n = refl
+
+  -- its closing brace
+  pub step_close : (n : ℕ) (body : List CodeLine) → step functions (at v (code.Close ∷ rest) (Upward 1 (atom.Number (pos n)) body ∷ braces))
+      ≡ (if int_lt (number_at (with_at (pos 0) v.indices 1 (int_wrap w64 (number_at v.indices 1 +ℤ pos 1))) 1) (pos n)
+      then turn (at (with_index v (int_wrap w64 (number_at v.indices 1 +ℤ pos 1))) body (Upward 1 (atom.Number (pos n)) body ∷ braces))
+      else quiet (at (with_index v (int_wrap w64 (number_at v.indices 1 +ℤ pos 1))) rest braces))
+  unfolding step step_at do_line close_line
+  step_close n body = refl
+
+  -- the end of the program
+  pub step_end : step functions (at v (code.Close ∷ rest) []) ≡ Ends Ended
+  unfolding step step_at do_line close_line leave
+  step_end = refl

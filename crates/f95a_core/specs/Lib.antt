@@ -1,0 +1,5 @@
+pub mod Building
+pub mod Compiling
+pub mod Follows
+pub mod Lowered
+pub mod Status

@@ -1,0 +1,157 @@
+//! The top call.
+ghost use Rattle.std.specs.Prelude.{◌≡◌, ◌⊎◌, ℕ, List, ◌≤◌, map, string_bytes, Some, None, Option, OnOk, IfOk, ◌≢◌};
+ghost use Rattle.f95a_core.specs.Status.{note};
+ghost use Rattle.f95a_core.specs.Building.{OnWritten};
+ghost use Rattle.std.specs.Option.{option_map};
+ghost use Rattle.std.specs.Io.KnownBytes.{Keeps};
+ghost use Rattle.io_edge.specs.Causes.{Rose};
+ghost use Rattle.rank_one.specs.Reading.{IsBroken, IsLeastBroken};
+ghost use Rattle.f95a_core.specs.Building.{operand, Loaded, Builds, WritesWhole, WritesFront, ComesTo, ComesToAfterLoad, IsOfBuild, IfRefused, OutputAfter, NotesAfter};
+
+use crate::compiling::{CompileRefusal, compile};
+use crate::status::Status;
+use io_edge::{LoadFault, PutFault, Shelf, Sink, Source};
+use loop_tree::LoopProgram;
+use std::alloc::{AllocError, Global};
+use std::fmt::Write;
+
+/// The file that the words ask to build.
+fn file_to_build(words: &[String]) -> Option<&str>
+    ensures { option_map (λ name. name.now) result ≡ operand (map string_bytes words.now) }
+{
+    match words {
+        [command, name] if command.as_str() == "build" => Some(name.as_str()),
+        _ => None,
+    }
+}
+
+/// Compiles a file and writes the text of its program.
+fn build<H: Shelf, K: Sink>(alloc: Global, name: &str, shelf: &mut H, out: &mut K) -> Status
+    ensures refused { IfRefused result (λ phase line rule. Loaded (H.file shelf.old) (Some name.now) (λ bytes. IsLeastBroken bytes phase line rule)) }
+    ensures broken { (bytes : List ℕ) → H.file shelf.old name.now ≡ Some bytes → (phase line rule : ℕ) → IsBroken bytes phase line rule → result ≢ Status.Done }
+    ensures read { result ≡ Status.ReadFault → (H.failed shelf.new ≡ name.now) × Rose (H.faults shelf.old) (H.faults shelf.new) }
+    ensures write { result ≡ Status.WriteFault → Rose (K.faults out.old) (K.faults out.new) }
+    ensures answers { IsOfBuild result }
+    ensures usage { result ≢ Status.Usage }
+    ensures output { OutputAfter result (H.file shelf.old) (Some name.now) (K.written out.old) (K.written out.new) }
+    ensures shelf { H.faults shelf.old ≤ H.faults shelf.new }
+    ensures out { K.faults out.old ≤ K.faults out.new }
+{
+    let mut source = Vec::new(alloc);
+    match shelf.load(alloc, name, &mut source) {
+        Ok(()) => {}
+        Err(LoadFault::Failed) => return Status::ReadFault,
+        Err(LoadFault::Memory) => return Status::Memory,
+    }
+    match compile(alloc, source.as_slice()) {
+        Ok(program) => write_program(alloc, &program, out),
+        Err(CompileRefusal::Refused { phase, line, rule }) => Status::Refused { phase, line, rule },
+        Err(CompileRefusal::Memory) => Status::Memory,
+    }
+}
+
+/// Writes the text of a program in one piece.
+fn write_program<K: Sink>(alloc: Global, program: &LoopProgram, out: &mut K) -> Status
+    ensures done { OnWritten result (K.written out.old) (K.written out.new) program.now }
+    ensures write { result ≡ Status.WriteFault → Rose (K.faults out.old) (K.faults out.new) }
+    ensures out { K.faults out.old ≤ K.faults out.new }
+{
+    let Ok(text) = loop_text::print(alloc, program) else {
+        return Status::Memory;
+    };
+    match out.put(text.as_slice()) {
+        Ok(()) => Status::Done,
+        Err(PutFault::Failed) => Status::WriteFault,
+        Err(PutFault::Memory) => Status::Memory,
+    }
+}
+
+/// The note of a status, with its line feed.
+fn note_of(alloc: Global, status: &Status) -> Result<String, AllocError>
+    ensures { IfOk result (λ text. string_bytes text ≡ note status.now) }
+{
+    let mut text = String::new(alloc);
+    match status {
+        Status::Done => {}
+        Status::Refused { phase, line, rule } => {
+            let line = line.0;
+            let rule = rule.0;
+            write!(
+                text,
+                "f95a: refused: phase {phase}, line {line}, rule P{rule}\n"
+            )?;
+        }
+        Status::Usage => text.push_str("f95a: usage\n")?,
+        Status::Fault { kind, line } => {
+            let number = kind.number();
+            let line = line.0;
+            write!(text, "f95a: fault F{number} at line {line}\n")?;
+        }
+        Status::TextRefused { line } => {
+            let line = line.0;
+            write!(text, "f95a: text refused at line {line}\n")?;
+        }
+        Status::Stuck { why } => write!(text, "f95a: stuck S{why}\n")?,
+        Status::TurnLimit => text.push_str("f95a: turn limit\n")?,
+        Status::InputTooLong => text.push_str("f95a: input too long\n")?,
+        Status::ReadFault => text.push_str("f95a: read fault\n")?,
+        Status::WriteFault => text.push_str("f95a: write fault\n")?,
+        Status::Memory => text.push_str("f95a: no memory\n")?,
+    }
+    Ok(text)
+}
+
+/// Writes the note of a status. The answer is the status, unless the note can't be written.
+fn tell<N: Sink>(alloc: Global, status: Status, notes: &mut N) -> Status
+    ensures answer { ComesTo status result }
+    ensures done { status ≡ Status.Done → result ≡ Status.Done }
+    ensures write { result ≡ Status.WriteFault → (status ≡ Status.WriteFault) ⊎ Rose (N.faults notes.old) (N.faults notes.new) }
+    ensures notes { NotesAfter result (N.faults notes.old) (N.faults notes.new) (N.written notes.old) (N.written notes.new) }
+    ensures later { N.faults notes.old ≤ N.faults notes.new }
+{
+    if let Status::Done = status {
+        return Status::Done;
+    }
+    let Ok(text) = note_of(alloc, &status) else {
+        return Status::Memory;
+    };
+    match notes.put(text.as_bytes()) {
+        Ok(()) => status,
+        Err(PutFault::Failed) => Status::WriteFault,
+        Err(PutFault::Memory) => Status::Memory,
+    }
+}
+
+/// Carries out the words of a command line: `build NAME` compiles the file of that name and writes the text of its
+/// program to `out`. The input is left as it is. Each status but `Done` writes its note to `notes`.
+pub fn f95a<H: Shelf, S: Source, K: Sink, N: Sink>(
+    alloc: Global,
+    words: &[String],
+    shelf: &mut H,
+    input: &mut S,
+    out: &mut K,
+    notes: &mut N,
+) -> Status
+    // Usage is answered exactly where the words are no command, but for a note that isn't written.
+    ensures usage { result ≡ Status.Usage → operand (map string_bytes words.now) ≡ None }
+    ensures usage_else { operand (map string_bytes words.now) ≡ None → ComesTo Status.Usage result }
+    // A refusal is that of the file's bytes: the least rule that they break.
+    ensures refused { IfRefused result (λ phase line rule. Loaded (H.file shelf.old) (operand (map string_bytes words.now)) (λ bytes. IsLeastBroken bytes phase line rule)) }
+    // A source that breaks a rule isn't built.
+    ensures broken { (name bytes : List ℕ) → operand (map string_bytes words.now) ≡ Some name → H.file shelf.old name ≡ Some bytes → (phase line rule : ℕ) → IsBroken bytes phase line rule → result ≢ Status.Done }
+    // A fault comes only where the object's count rose.
+    ensures read { result ≡ Status.ReadFault → (operand (map string_bytes words.now) ≡ Some (H.failed shelf.new)) × Rose (H.faults shelf.old) (H.faults shelf.new) }
+    ensures write { result ≡ Status.WriteFault → Rose (K.faults out.old) (K.faults out.new) ⊎ Rose (N.faults notes.old) (N.faults notes.new) }
+    // No other status comes. So a source that breaks no rule is built, unless a device or memory fails.
+    ensures answers { IsOfBuild result }
+    // What is written: the text of a program that follows the source.
+    ensures output { OutputAfter result (H.file shelf.old) (operand (map string_bytes words.now)) (K.written out.old) (K.written out.new) }
+    ensures notes { NotesAfter result (N.faults notes.old) (N.faults notes.new) (N.written notes.old) (N.written notes.new) }
+    ensures input { input.new ≡ input.old }
+{
+    let _ = &input;
+    match file_to_build(words) {
+        Some(name) => tell(alloc, build(alloc, name, shelf, out), notes),
+        None => tell(alloc, Status::Usage, notes),
+    }
+}

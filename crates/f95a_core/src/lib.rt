@@ -1,0 +1,13 @@
+//! The compiler as one call: `f95a` takes the words of a command line, the files, the input, the output and the notes,
+//! and answers a status. Its clauses carry the theorem of the program: what `build` writes follows its source
+//! (`specs/Building.antt`, `specs/Follows.antt`), and each status has its cause.
+#![tactic(auto)]
+
+mod command;
+mod compiling;
+mod lower;
+mod status;
+
+pub use command::f95a;
+pub use compiling::{CompileRefusal, compile};
+pub use status::{Status, code};

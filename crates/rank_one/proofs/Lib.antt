@@ -1,0 +1,17 @@
+pub mod Acting
+pub mod Answered
+pub mod Choices
+pub mod Declaring
+pub mod Lexing
+pub mod Ordered
+pub mod Parsed
+pub mod Public
+pub mod Running
+pub mod SeenLaws
+pub mod Sizes
+pub mod Sourced
+pub mod Splitting
+pub mod Steps
+pub mod SymbolLaws
+pub mod Units
+pub mod Whole

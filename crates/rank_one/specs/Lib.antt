@@ -1,0 +1,12 @@
+pub mod Answer
+pub mod Conditions
+pub mod Grammar
+pub mod Laws
+pub mod Machine
+pub mod Meaning
+pub mod Parsing
+pub mod Reading
+pub mod Refused
+pub mod Resolving
+pub mod Tokens
+pub mod Typed
