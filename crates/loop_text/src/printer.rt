@@ -80,7 +80,7 @@ fn put(out: &mut String, statement: &Stmt) -> Result<(), AllocError>
             write!(out, "if ({test}) {{\n")?;
             put_all(out, body.as_slice())?;
             write!(out, "}} else {{\n")?;
-            put_all(out, other.as_slice())?;
+            put_all(out, other.get().as_slice())?;
             write!(out, "}}\n")
         }
         Stmt::ForUp(k, bound, body) => {

@@ -1,6 +1,7 @@
 ghost use Rattle.std.specs.Prelude.{◌≡◌, IfOk};
 
 use a95_base::Bytes;
+use sqlite_items::Boxed;
 use std::alloc::{AllocError, Global};
 
 /// The letter of a variable tells its type: `i`, `s`, `b` and `c`. Loop variables have the letter `k`, and no
@@ -29,7 +30,7 @@ pub enum Atom {
 #[derive(Debug, Drop)]
 pub enum TextAtom {
     Variable(u32),
-    Literal(Bytes),
+    Literal(Boxed<Bytes>),
 }
 
 impl TextAtom {
@@ -39,7 +40,10 @@ impl TextAtom {
     {
         match self {
             TextAtom::Variable(n) => Ok(TextAtom::Variable(*n)),
-            TextAtom::Literal(bytes) => Ok(TextAtom::Literal(bytes.copy(alloc)?)),
+            TextAtom::Literal(bytes) => {
+                let bytes = bytes.get().copy(alloc)?;
+                Ok(TextAtom::Literal(Boxed::new(alloc, bytes)?))
+            }
         }
     }
 }

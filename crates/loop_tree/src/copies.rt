@@ -4,7 +4,7 @@ ghost use Rattle.std.specs.Prelude.{◌≡◌, IfOk};
 
 use crate::atom::Argument;
 use crate::row::{BlockRow, ControlRow, IntValue, RecordRow, Row, TextValue};
-use sqlite_items::Items;
+use sqlite_items::{Boxed, Items};
 use std::alloc::{AllocError, Global};
 
 impl IntValue {
@@ -122,7 +122,10 @@ impl Row {
     {
         match self {
             Row::Int(n, value) => Ok(Row::Int(*n, value.copy(alloc)?)),
-            Row::Text(n, value) => Ok(Row::Text(*n, value.copy(alloc)?)),
+            Row::Text(n, value) => {
+                let value = value.get().copy(alloc)?;
+                Ok(Row::Text(*n, Boxed::new(alloc, value)?))
+            }
             Row::Block(row) => Ok(Row::Block(row.copy(alloc)?)),
             Row::Control(row) => Ok(Row::Control(row.copy(alloc)?)),
             Row::Record(row) => Ok(Row::Record(row.copy(alloc)?)),

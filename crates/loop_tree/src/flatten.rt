@@ -37,7 +37,7 @@ fn put(lines: &mut Items<CodeLine>, statement: &Stmt, alloc: Global) -> Result<(
             lines.push(CodeLine::If(*test))?;
             put_all(lines, body.as_slice(), alloc)?;
             lines.push(CodeLine::Else)?;
-            put_all(lines, other.as_slice(), alloc)?;
+            put_all(lines, other.get().as_slice(), alloc)?;
             lines.push(CodeLine::Close)?;
             Ok(())
         }

@@ -1,6 +1,6 @@
 use crate::atom::{Argument, Atom, Operator, Reference, TextAtom};
 use a95_base::FaultKind;
-use sqlite_items::Items;
+use sqlite_items::{Boxed, Items};
 
 /// What stands on the right of `iN = ..;`.
 #[derive(Debug, Drop)]
@@ -129,7 +129,7 @@ pub enum Row {
     /// `iN = ..;`
     Int(u32, IntValue),
     /// `sN = ..;`
-    Text(u32, TextValue),
+    Text(u32, Boxed<TextValue>),
     Block(BlockRow),
     Control(ControlRow),
     Record(RecordRow),

@@ -150,7 +150,10 @@ impl fmt::Display for Row {
     fn fmt<W: fmt::Write>(&self, f: &mut fmt::Formatter<W>) -> fmt::Result {
         match self {
             Row::Int(n, value) => write!(f, "i{n} = {value}"),
-            Row::Text(n, value) => write!(f, "s{n} = {value}"),
+            Row::Text(n, value) => {
+                let value = value.get();
+                write!(f, "s{n} = {value}")
+            }
             Row::Block(row) => write!(f, "{row}"),
             Row::Control(row) => write!(f, "{row}"),
             Row::Record(row) => write!(f, "{row}"),

@@ -82,7 +82,7 @@ impl fmt::Display for TextAtom {
         match self {
             TextAtom::Variable(n) => write!(f, "s{n}"),
             TextAtom::Literal(bytes) => {
-                let quoted = QuotedBytes(bytes.as_slice());
+                let quoted = QuotedBytes(bytes.get().as_slice());
                 write!(f, "\"{quoted}\"")
             }
         }

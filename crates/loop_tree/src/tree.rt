@@ -1,6 +1,6 @@
 use crate::atom::{Atom, Letter};
 use crate::row::Row;
-use sqlite_items::Items;
+use sqlite_items::{Boxed, Items};
 
 /// A statement, with the statements inside it.
 #[derive(Debug, Drop)]
@@ -9,7 +9,7 @@ pub enum Stmt {
     /// `if (A) {` .. `}`
     If(Atom, Items<Stmt>),
     /// `if (A) {` .. `} else {` .. `}`
-    IfElse(Atom, Items<Stmt>, Items<Stmt>),
+    IfElse(Atom, Items<Stmt>, Boxed<Items<Stmt>>),
     /// `for (kN = 0; kN < A; kN = kN + 1) {` .. `}`
     ForUp(u32, Atom, Items<Stmt>),
     /// `for (kN = A - 1; kN >= 0; kN = kN - 1) {` .. `}`
