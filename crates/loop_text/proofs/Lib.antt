@@ -1,4 +1,12 @@
+pub mod Levels
 pub mod Numbers
+pub mod OneLine
 pub mod Texts
 pub mod Values
-pub mod OneLine
+pub mod Completes
+pub mod WholeText
+pub mod Fits
+pub mod Reached
+pub mod OneLineEach
+pub mod Pieces
+pub mod Progress

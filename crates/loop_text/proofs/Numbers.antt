@@ -1,5 +1,5 @@
 -- A number, an atom, a text and a reference that are spelled right are taken for what they spell.
-use Rattle.std.proofs.Common.{◌≡◌, ℕ, zero, suc, ℤ, pos, negsuc, ◌+◌, ◌-◌, ◌*◌, ◌/◌, ◌%◌, ◌^◌, ◌<◌, ◌≤◌, ◌==◌, Bool, true, false, ◌&&◌, ◌||◌, nat_le, List, [], ◌∷◌, ◌++◌, length, get_or, drop, codes, decimal, if◌then◌else◌, refl, sym, ◌∙◌, ap, subst, arith, append_assoc, mod-eq_of_lt}
+use Rattle.std.proofs.Common.{◌≡◌, ℕ, suc, pos, negsuc, ◌+◌, ◌-◌, ◌*◌, ◌/◌, ◌%◌, ◌^◌, ◌<◌, ◌==◌, true, false, List, [], ◌∷◌, ◌++◌, decimal, refl, ◌∙◌, ap, arith, append_assoc, mod-eq_of_lt}
 use Rattle.std.proofs.lemmas.Fmt.{decimal_by_steps}
 use Rattle.std.proofs.lemmas.Bool.Decides.{nat_tests}
 use Rattle.std.proofs.lemmas.Int.{ints, of_z-to_z}
@@ -9,11 +9,11 @@ use Rattle.loop_tree.specs.declared.atom.Atom.{Atom}
 use Rattle.loop_tree.specs.declared.atom.Atom.TheVariants as atom
 use Rattle.loop_tree.specs.Text.{atom_text}
 use Rattle.loop_tree.specs.Program.{FitsAtom}
-use Rattle.loop_text.specs.Guess.{byte_at, is_digit, NumberOn, number_onto, number_on, index_on, AtomOn, int_atom, loop_atom, negative_atom, positive_atom, atom_on}
+use Rattle.loop_text.specs.Guess.{byte_at, is_digit, NumberOn, number_onto, number_on, index_on, int_atom, loop_atom, negative_atom, positive_atom, atom_on}
 
 -- ---- numbers
 
-digit_is : (d : ℕ) → d < 10 → is_digit (48 + d) ≡ true
+pub digit_is : (d : ℕ) → d < 10 → is_digit (48 + d) ≡ true
 digit_is d h = grind (arith, nat_tests)
 
 with_digit : (m d n : ℕ) → d < 10 → m * 10 + d ≡ n → n < 2 ^ 64 → ((m * 10) % 2 ^ 64 + (48 + d - 48)) % 2 ^ 64 ≡ n
@@ -51,7 +51,7 @@ first_digit n small = decimal_by_steps (λ n ds. (rest : List ℕ) → is_digit 
     (λ n ds h more rest. ap (λ bytes. is_digit (byte_at bytes 0)) (append_assoc ds ((48 + n % 10) ∷ []) rest) ∙ more ((48 + n % 10) ∷ rest))
     n small
 
-digit_differs : (c k : ℕ) → is_digit c ≡ true → 57 < k → (c == k) ≡ false
+pub digit_differs : (c k : ℕ) → is_digit c ≡ true → 57 < k → (c == k) ≡ false
 digit_differs c k e h = grind (arith, nat_tests)
 
 digit_is_no_minus : (c : ℕ) → is_digit c ≡ true → (c == 45) ≡ false

@@ -1,15 +1,9 @@
 -- A line that is spelled right is taken for what it spells, so no two lines are spelled alike.
-use Rattle.std.proofs.Common.{◌≡◌, ℕ, zero, suc, ◌+◌, ◌%◌, ◌<◌, ◌^◌, ◌==◌, Bool, true, false, List, [], ◌∷◌, ◌++◌, drop, codes, decimal, refl, sym, ◌∙◌, ap, arith, append_assoc, append-nil}
-use Rattle.std.specs.List.{AllByRecursion}
+use Rattle.std.proofs.Common.{◌≡◌, ℕ, ◌%◌, ◌<◌, ◌^◌, false, List, [], ◌∷◌, ◌++◌, drop, codes, decimal, refl, ◌∙◌, ap, arith, append_assoc}
 use Rattle.a95_base.specs.declared.fault.FaultKind.{FaultKind}
 use Rattle.a95_base.specs.declared.fault.FaultKind.TheVariants as kind
 use Rattle.a95_base.specs.Fault.{fault_number}
 use Rattle.loop_tree.specs.declared.atom.Atom.{Atom}
-use Rattle.loop_tree.specs.declared.atom.TextAtom.{TextAtom}
-use Rattle.loop_tree.specs.declared.atom.Reference.{Reference}
-use Rattle.loop_tree.specs.declared.atom.Argument.{Argument}
-use Rattle.loop_tree.specs.declared.row.IntValue.{IntValue}
-use Rattle.loop_tree.specs.declared.row.TextValue.{TextValue}
 use Rattle.loop_tree.specs.declared.row.BlockRow.{BlockRow}
 use Rattle.loop_tree.specs.declared.row.BlockRow.TheVariants as block
 use Rattle.loop_tree.specs.declared.row.ControlRow.{ControlRow}
@@ -21,11 +15,11 @@ use Rattle.loop_tree.specs.declared.row.Row.TheVariants as row
 use Rattle.loop_tree.specs.declared.tree.CodeLine.{CodeLine}
 use Rattle.loop_tree.specs.declared.tree.CodeLine.TheVariants as code
 use Rattle.loop_tree.specs.Text.{atom_text, text_atom_text, reference_text, argument_text, listed_by, int_value_text, text_value_text, block_row_text, control_row_text, record_row_text, row_text, spell}
-use Rattle.loop_tree.specs.Program.{FitsNumber, FitsAtom, FitsText, FitsReference, FitsBlock, FitsControl, FitsRecord, FitsRow, FitsLine}
+use Rattle.loop_tree.specs.Program.{FitsAtom, FitsBlock, FitsControl, FitsRecord, FitsRow, FitsLine}
 use Rattle.loop_text.specs.Guess.{byte_at, is_digit, NumberOn, AtomOn, TextOn, ReferenceOn, number_on, atom_on, text_on, reference_on, index_on, arguments_on, int_value_on, text_value_on, store_int_on, store_text_on, ints_value_on, new_text_on, texts_value_on, ints_row_on, texts_row_on, int_row_on, text_row_on, call_on, variable_row_on, fault_of, grow_on, built_in_on, for_on, loop_on, word_on, line_on}
 use Rattle.loop_text.proofs.Numbers.{number_again, index_again, atom_again, first_digit}
 use Rattle.loop_text.proofs.Texts.{text_again, reference_again, arguments_again}
-use Rattle.loop_text.proofs.Values.{end_of_call, two, one_is, two_is, int_value_again, text_value_again}
+use Rattle.loop_text.proofs.Values.{end_of_call, one_is, two_is, int_value_again, text_value_again}
 
 abbrev semicolon : List ℕ
 semicolon = 59 ∷ []

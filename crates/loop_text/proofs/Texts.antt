@@ -1,5 +1,5 @@
 -- Texts, references and arguments that are spelled right are taken for what they spell.
-use Rattle.std.proofs.Common.{◌≡◌, ℕ, zero, suc, ℤ, pos, negsuc, ◌+◌, ◌-◌, ◌*◌, ◌/◌, ◌%◌, ◌^◌, ◌<◌, ◌≤◌, ◌==◌, Bool, true, false, ◌&&◌, ◌||◌, nat_le, List, [], ◌∷◌, ◌++◌, length, get_or, drop, codes, decimal, flat_map, if◌then◌else◌, refl, sym, ◌∙◌, ap, subst, arith, append_assoc, append-nil, mod-eq_of_lt, length-append}
+use Rattle.std.proofs.Common.{◌≡◌, ℕ, zero, suc, pos, negsuc, ◌+◌, ◌*◌, ◌/◌, ◌%◌, ◌^◌, ◌<◌, ◌≤◌, ◌==◌, Bool, true, false, List, [], ◌∷◌, ◌++◌, length, drop, codes, flat_map, if◌then◌else◌, refl, sym, ◌∙◌, ap, arith, append_assoc, append-nil, length-append}
 use Rattle.std.proofs.lemmas.Bool.Decides.{nat_tests}
 use Rattle.std.specs.List.{AllByRecursion}
 use Rattle.loop_tree.specs.declared.atom.Atom.{Atom}
@@ -12,7 +12,7 @@ use Rattle.loop_tree.specs.declared.atom.Argument.{Argument}
 use Rattle.loop_tree.specs.declared.atom.Argument.TheVariants as argument
 use Rattle.loop_tree.specs.Text.{atom_text, is_plain, octal, byte_text, bytes_text, text_atom_text, reference_text, argument_text, listed_by}
 use Rattle.loop_tree.specs.Program.{FitsByte, FitsAtom, FitsText, FitsReference, FitsArgument}
-use Rattle.loop_text.specs.Guess.{byte_at, is_digit, AtomOn, atom_on, begins_atom, BytesOn, escape_onto, quoted_onto, TextOn, literal_text, variable_text, text_on, begins_text, ReferenceOn, ints_reference, texts_reference, reference_on, ArgumentOn, int_argument, text_argument, block_argument, argument_on, arguments_onto, arguments_on}
+use Rattle.loop_text.specs.Guess.{byte_at, is_digit, begins_atom, escape_onto, quoted_onto, behind_quote, literal_text, variable_text, text_on, begins_text, ints_reference, texts_reference, reference_on, ArgumentOn, int_argument, text_argument, block_argument, argument_on, arguments_onto, arguments_on}
 use Rattle.loop_text.proofs.Numbers.{index_again, atom_again, first_digit}
 
 -- ---- texts between quotes
@@ -38,18 +38,30 @@ one_byte : (done : List ℕ) (c : ℕ) (rest : List ℕ) (b : Bool) → c < 256 
 one_byte done c rest true h e = rw (plain_is_no_quote c e, plain_is_no_backslash c e) refl
 one_byte done c rest false h e = ap (λ n. quoted_onto (done ++ n ∷ []) 0 0 rest) (escape_again c h)
 
-quoted_again : (done bytes rest : List ℕ) → AllByRecursion FitsByte bytes → quoted_onto done 0 0 (bytes_text bytes ++ 34 ∷ rest) ≡ record { value = done ++ bytes; rest = rest }
-quoted_again done [] rest h = ap (λ v. record { value = v; rest = rest }) (sym (append-nil done))
+behind_byte : (c : ℕ) (rest : List ℕ) (b : Bool) → is_plain c ≡ b → behind_quote 0 ((if b then c ∷ [] else (92 ∷ octal c)) ++ rest) ≡ behind_quote 0 rest
+behind_byte c rest true e = rw (plain_is_no_quote c e, plain_is_no_backslash c e) refl
+behind_byte c rest false e = refl
+
+quoted_again : (done bytes rest : List ℕ) → AllByRecursion FitsByte bytes → quoted_onto done 0 0 (bytes_text bytes ++ 34 ∷ rest) ≡ done ++ bytes
+quoted_again done [] rest h = sym (append-nil done)
 quoted_again done (c ∷ cs) rest h =
     ap (quoted_onto done 0 0) (append_assoc (byte_text c) (bytes_text cs) (34 ∷ rest))
     ∙ (one_byte done c (bytes_text cs ++ 34 ∷ rest) (is_plain c) h.0 refl
-    ∙ (quoted_again (done ++ c ∷ []) cs rest h.1 ∙ ap (λ v. record { value = v; rest = rest }) (append_assoc done (c ∷ []) cs)))
+    ∙ (quoted_again (done ++ c ∷ []) cs rest h.1 ∙ append_assoc done (c ∷ []) cs))
+
+behind_again : (bytes rest : List ℕ) → behind_quote 0 (bytes_text bytes ++ 34 ∷ rest) ≡ rest
+behind_again [] rest = refl
+behind_again (c ∷ cs) rest =
+    ap (behind_quote 0) (append_assoc (byte_text c) (bytes_text cs) (34 ∷ rest))
+    ∙ (behind_byte c (bytes_text cs ++ 34 ∷ rest) (is_plain c) refl ∙ behind_again cs rest)
 
 pub text_again : (t : TextAtom) (rest : List ℕ) → FitsText t → is_digit (byte_at rest 0) ≡ false → text_on (text_atom_text t ++ rest) ≡ record { value = t; rest = rest }
 unfolding text_on
 text_again (text.Variable n) rest h e = ap variable_text (index_again n rest h e)
 text_again (text.Literal bytes) rest h e =
-    ap (λ bs. literal_text (quoted_onto [] 0 0 bs)) (append_assoc (bytes_text bytes) (34 ∷ []) rest) ∙ ap literal_text (quoted_again [] bytes rest h)
+    ap literal_text (append_assoc (bytes_text bytes) (34 ∷ []) rest)
+    ∙ (ap (λ bs. record { value = text.Literal bs; rest = behind_quote 0 (bytes_text bytes ++ 34 ∷ rest) }) (quoted_again [] bytes rest h)
+    ∙ ap (λ bs. record { value = text.Literal bytes; rest = bs }) (behind_again bytes rest))
 
 pub reference_again : (r : Reference) (rest : List ℕ) → FitsReference r → is_digit (byte_at rest 0) ≡ false → reference_on (reference_text r ++ rest) ≡ record { value = r; rest = rest }
 unfolding reference_on
@@ -136,3 +148,16 @@ arguments_again (a ∷ more) rest h =
     ap arguments_on (listed_first a more rest)
     ∙ rw (argument_opens a (others_text more rest) h.0)
     (with_fuel (length (argument_text a ++ others_text more rest)) a more rest h.0 h.1 (omega (arith, length-append (argument_text a) (others_text more rest), others_long more rest)))
+
+-- one turn of the reader of arguments
+turn_at : (done : List Argument) (m : ℕ) (bytes : List ℕ) → byte_at ((argument_on bytes).rest) 0 ≡ 44 →
+    arguments_onto done (suc m) bytes ≡ arguments_onto (done ++ (argument_on bytes).value ∷ []) m (drop 2 ((argument_on bytes).rest))
+unfolding arguments_onto
+turn_at done m bytes comma = rw comma refl
+
+pub arguments_next : (done all : List Argument) (n m : ℕ) (bytes behind rest : List ℕ) (value : Argument) → n ≡ suc m → behind ≡ (argument_on bytes).rest → byte_at behind 0 ≡ 44 →
+    value ≡ (argument_on bytes).value → all ≡ done ++ value ∷ [] → rest ≡ drop 2 behind → arguments_onto done n bytes ≡ arguments_onto all m rest
+arguments_next done all n m bytes behind rest value e b comma v a r =
+    let here : byte_at ((argument_on bytes).rest) 0 ≡ 44 = ap (λ bs. byte_at bs 0) (sym b) ∙ comma in
+    let turn = turn_at done m bytes here in
+    cc

@@ -1,8 +1,7 @@
 -- Values that are spelled right are taken for what they spell. What stands behind a value is the semicolon.
-use Rattle.std.proofs.Common.{◌≡◌, ℕ, zero, suc, ◌+◌, ◌<◌, ◌^◌, ◌==◌, Bool, true, false, List, [], ◌∷◌, ◌++◌, drop, codes, decimal, refl, sym, ◌∙◌, ap, arith, append_assoc, append-nil}
+use Rattle.std.proofs.Common.{◌≡◌, ℕ, List, [], ◌∷◌, ◌++◌, drop, decimal, refl, ◌∙◌, ap, append_assoc, append-nil}
 use Rattle.loop_tree.specs.declared.atom.Atom.{Atom}
 use Rattle.loop_tree.specs.declared.atom.TextAtom.{TextAtom}
-use Rattle.loop_tree.specs.declared.atom.Reference.{Reference}
 use Rattle.loop_tree.specs.declared.atom.Operator.{Operator}
 use Rattle.loop_tree.specs.declared.atom.Operator.TheVariants as operator
 use Rattle.loop_tree.specs.declared.row.IntValue.{IntValue}
@@ -10,8 +9,8 @@ use Rattle.loop_tree.specs.declared.row.IntValue.TheVariants as int
 use Rattle.loop_tree.specs.declared.row.TextValue.{TextValue}
 use Rattle.loop_tree.specs.declared.row.TextValue.TheVariants as words
 use Rattle.loop_tree.specs.Text.{atom_text, text_atom_text, reference_text, operator_text, int_value_text, text_value_text}
-use Rattle.loop_tree.specs.Program.{FitsAtom, FitsText, FitsReference, FitsInt, FitsWords}
-use Rattle.loop_text.specs.Guess.{NumberOn, AtomOn, TextOn, ReferenceOn, atom_on, text_on, reference_on, index_on, operator_on, operation_on, int_cell_on, int_power_on, int_xor_on, int_index_on, int_compare_on, int_call_on, int_value_on, text_cell_on, text_join_on, text_part_on, text_over_on, text_fit_on, text_call_on, text_value_on}
+use Rattle.loop_tree.specs.Program.{FitsAtom, FitsInt, FitsWords}
+use Rattle.loop_text.specs.Guess.{AtomOn, TextOn, ReferenceOn, atom_on, text_on, reference_on, index_on, operator_on, operation_on, int_cell_on, int_power_on, int_xor_on, int_index_on, int_compare_on, int_plain_on, int_call_on, int_value_on, text_cell_on, text_join_on, text_part_on, text_over_on, text_fit_on, text_call_on, text_value_on}
 use Rattle.loop_text.proofs.Numbers.{index_again, atom_again}
 use Rattle.loop_text.proofs.Texts.{text_again, reference_again, atom_begins, text_begins}
 
@@ -73,7 +72,7 @@ cell_is : (n a : List ℕ) → (n ++ 91 ∷ (a ++ 93 ∷ [])) ++ semicolon ≡ n
 cell_is n a = simp append_assoc
 
 pub int_value_again : (v : IntValue) → FitsInt v → int_value_on (int_value_text v ++ semicolon) ≡ v
-unfolding int_value_on int_call_on int_cell_on int_power_on int_xor_on int_index_on int_compare_on
+unfolding int_value_on int_call_on int_plain_on int_cell_on int_power_on int_xor_on int_index_on int_compare_on
 int_value_again (int.Atom a) h = atom_first a semicolon h (int.Atom a) (ap operation_on (atom_again a semicolon h refl) ∙ alone a)
 int_value_again (int.Operation a op b) h =
     let rest = 32 ∷ (operator_text op ++ 32 ∷ (atom_text b ++ semicolon)) in

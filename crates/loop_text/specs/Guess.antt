@@ -1,6 +1,8 @@
 -- What a line of text is taken for. Only some bytes are looked at, so a line is that only if it is spelled as that: the
 -- reader compares. Each line that is spelled right is taken for what it spells.
-use Rattle.std.specs.Prelude.{ℕ, zero, suc, ℤ, pos, ◌+◌, ◌-◌, ◌*◌, ◌%◌, ◌^◌, ◌==◌, Bool, true, false, ◌&&◌, ◌||◌, nat_le, nat_eq, if◌then◌else◌, List, [], ◌∷◌, ◌++◌, length, get_or, drop, codes}
+-- No public clause cites this file: it says how the private functions work. What is read and what is refused stands in
+-- Refused.antt.
+use Rattle.std.specs.Prelude.{ℕ, zero, suc, ◌+◌, ◌-◌, ◌*◌, ◌%◌, ◌^◌, ◌==◌, Bool, false, ◌&&◌, ◌||◌, nat_le, nat_eq, if◌then◌else◌, List, [], ◌∷◌, ◌++◌, length, get_or, drop, codes}
 use Rattle.std.specs.List.{starts_with}
 use Rattle.std.specs.Int.{w64, cast_signed, int_wrapping_neg}
 use Rattle.std.specs.Option.{unwrap_or}
@@ -23,9 +25,7 @@ use Rattle.loop_tree.specs.declared.row.TextValue.{TextValue}
 use Rattle.loop_tree.specs.declared.row.TextValue.TheVariants as words
 use Rattle.loop_tree.specs.declared.row.BlockRow.{BlockRow}
 use Rattle.loop_tree.specs.declared.row.BlockRow.TheVariants as block
-use Rattle.loop_tree.specs.declared.row.ControlRow.{ControlRow}
 use Rattle.loop_tree.specs.declared.row.ControlRow.TheVariants as control
-use Rattle.loop_tree.specs.declared.row.RecordRow.{RecordRow}
 use Rattle.loop_tree.specs.declared.row.RecordRow.TheVariants as record_row
 use Rattle.loop_tree.specs.declared.row.Row.{Row}
 use Rattle.loop_tree.specs.declared.row.Row.TheVariants as row
@@ -89,34 +89,44 @@ atom_on bytes =
 abbrev pub begins_atom : ℕ → Bool
 begins_atom c = is_digit c || ((c == 45) || ((c == 105) || (c == 107)))
 
--- the bytes up to the closing quote, behind those of `done`; of an escape `left` digits are to come, behind the value n
-pub record BytesOn : Type 0 where
-  pub value : List ℕ
-  pub rest : List ℕ
-
+-- one more octal digit behind n, modulo 2 ^ 8
 abbrev pub escape_onto : ℕ → ℕ → ℕ
 escape_onto n c = ((n * 8) % 2 ^ 8 + (c + (2 ^ 8 - 48)) % 2 ^ 8) % 2 ^ 8
 
-abbrev pub quoted_onto : List ℕ → ℕ → ℕ → List ℕ → BytesOn
-quoted_onto done left n [] = record { value = done; rest = [] }
-quoted_onto done zero n (c ∷ cs) =
-    if c == 34 then record { value = done; rest = cs } else (
-    if c == 92 then quoted_onto done 3 0 cs else quoted_onto (done ++ c ∷ []) 0 0 cs)
-quoted_onto done (suc zero) n (c ∷ cs) = quoted_onto (done ++ escape_onto n c ∷ []) 0 0 cs
-quoted_onto done (suc (suc left)) n (c ∷ cs) = quoted_onto done (suc left) (escape_onto n c) cs
+-- the bytes up to the closing quote, behind those of `done`; of an escape `left` digits are to come, behind the value n
+abbrev pub quoted_onto : List ℕ → ℕ → ℕ → List ℕ → List ℕ
+quoted_onto done left n [] = done
+quoted_onto done left n (c ∷ cs) =
+    if left == 0 then (
+    if c == 34 then done else (
+    if c == 92 then quoted_onto done 3 0 cs else quoted_onto (done ++ c ∷ []) 0 0 cs)) else (
+    if left == 1 then quoted_onto (done ++ escape_onto n c ∷ []) 0 0 cs else quoted_onto done (left - 1) (escape_onto n c) cs)
+
+-- the byte is the closing quote, where `left` digits of an escape are to come
+abbrev pub ends_quote : ℕ → ℕ → Bool
+ends_quote left c = if left == 0 then c == 34 else false
+
+-- how many digits of an escape are to come behind the byte
+abbrev pub escape_left : ℕ → ℕ → ℕ
+escape_left left c = if left == 0 then (if c == 92 then 3 else 0) else (left - 1)
+
+-- what stands behind the closing quote
+abbrev pub behind_quote : ℕ → List ℕ → List ℕ
+behind_quote left [] = []
+behind_quote left (c ∷ cs) = if ends_quote left c then cs else behind_quote (escape_left left c) cs
 
 pub record TextOn : Type 0 where
   pub value : TextAtom
   pub rest : List ℕ
 
-abbrev pub literal_text : BytesOn → TextOn
-literal_text b = record { value = text.Literal b.value; rest = b.rest }
+abbrev pub literal_text : List ℕ → TextOn
+literal_text bytes = record { value = text.Literal (quoted_onto [] 0 0 bytes); rest = behind_quote 0 bytes }
 
 abbrev pub variable_text : NumberOn → TextOn
 variable_text n = record { value = text.Variable n.value; rest = n.rest }
 
 unfoldable pub text_on : List ℕ → TextOn
-text_on bytes = if byte_at bytes 0 == 34 then literal_text (quoted_onto [] 0 0 (drop 1 bytes)) else variable_text (index_on (drop 1 bytes))
+text_on bytes = if byte_at bytes 0 == 34 then literal_text (drop 1 bytes) else variable_text (index_on (drop 1 bytes))
 
 -- the byte begins a text atom
 abbrev pub begins_text : ℕ → Bool
@@ -213,21 +223,26 @@ int_index_on t = int.Index t.value (second_text t.rest)
 unfoldable pub int_compare_on : TextOn → IntValue
 int_compare_on t = int.Compare t.value (second_text t.rest)
 
-unfoldable pub int_call_on : List ℕ → IntValue
-int_call_on bytes =
+-- a built-in without texts
+unfoldable pub int_plain_on : List ℕ → IntValue
+int_plain_on bytes =
     if begins bytes (codes "f_wrap(") then int.Wrap (atom_on (drop 7 bytes)).value else (
     if begins bytes (codes "f_pow(") then int_power_on (atom_on (drop 6 bytes)) else (
     if begins bytes (codes "f_xor(") then int_xor_on (atom_on (drop 6 bytes)) else (
-    if begins bytes (codes "f_len(") then int.Length (text_on (drop 6 bytes)).value else (
-    if begins bytes (codes "f_index(") then int_index_on (text_on (drop 8 bytes)) else (
-    if begins bytes (codes "f_code(") then int.Code (text_on (drop 7 bytes)).value else (
-    if begins bytes (codes "f_cmp(") then int_compare_on (text_on (drop 6 bytes)) else (
     if begins bytes (codes "f_size(") then int.Size (reference_on (drop 7 bytes)).value else (
     if begins bytes (codes "f_live(") then int.Live (reference_on (drop 7 bytes)).value else (
     if begins bytes (codes "f_depth(") then int.Depth else (
     if begins bytes (codes "f_more(") then int.More else (
     if begins bytes (codes "f_look(") then int.Look (atom_on (drop 7 bytes)).value else
-    int.Take (atom_on (drop 7 bytes)).value)))))))))))
+    int.Take (atom_on (drop 7 bytes)).value)))))))
+
+unfoldable pub int_call_on : List ℕ → IntValue
+int_call_on bytes =
+    if begins bytes (codes "f_len(") then int.Length (text_on (drop 6 bytes)).value else (
+    if begins bytes (codes "f_index(") then int_index_on (text_on (drop 8 bytes)) else (
+    if begins bytes (codes "f_code(") then int.Code (text_on (drop 7 bytes)).value else (
+    if begins bytes (codes "f_cmp(") then int_compare_on (text_on (drop 6 bytes)) else
+    int_plain_on bytes)))
 
 unfoldable pub int_value_on : List ℕ → IntValue
 int_value_on bytes =

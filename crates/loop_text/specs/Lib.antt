@@ -1,1 +1,3 @@
 pub mod Guess
+pub mod Reader
+pub mod Refused

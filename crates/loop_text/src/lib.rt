@@ -2,6 +2,13 @@
 //! has exactly one.
 #![tactic(auto)]
 
+mod front;
+mod guess;
+mod level;
 mod printer;
+mod reader;
+mod reading;
+mod stack;
 
 pub use printer::print;
+pub use reading::{NoText, one_line, one_program, read};

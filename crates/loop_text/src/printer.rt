@@ -31,17 +31,18 @@ fn put_function(out: &mut String, number: usize, function: &Function) -> Result<
     ensures { OnOk result (string_bytes out.new ≡ string_bytes out.old ++ with_line_feeds (function_lines number function.now)) }
 {
     put_head(out, number, function.parameters.as_slice())?;
+    write!(out, "\n")?;
     put_all(out, function.body.as_slice())?;
     write!(out, "}}\n")
 }
 
-/// The line that begins a function.
-fn put_head(out: &mut String, number: usize, parameters: &[Letter]) -> Result<(), AllocError>
-    ensures { OnOk result (string_bytes out.new ≡ string_bytes out.old ++ (function_head number parameters.now ++ 10 ∷ [])) }
+/// The line that begins a function, without its line feed.
+pub fn put_head(out: &mut String, number: usize, parameters: &[Letter]) -> Result<(), AllocError>
+    ensures { OnOk result (string_bytes out.new ≡ string_bytes out.old ++ function_head number parameters.now) }
 {
     write!(out, "void f{number}(")?;
     put_parameters(out, parameters)?;
-    write!(out, ") {{\n")
+    write!(out, ") {{")
 }
 
 fn put_parameters(out: &mut String, parameters: &[Letter]) -> Result<(), AllocError>

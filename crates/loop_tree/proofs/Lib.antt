@@ -4,3 +4,4 @@ pub mod Outcomes
 pub mod Runs
 pub mod Lessens
 pub mod Exists
+pub mod Trees
