@@ -1,0 +1,537 @@
+-- The living blocks of slots whose numbers rise: what a number finds among them, and what changes of one slot do.
+use Rattle.std.proofs.Common.{◌≡◌, ◌≢◌, ◌⊎◌, ℕ, zero, suc, ◌+◌, ◌-◌, ◌<◌, ◌≤◌, ◌==◌, Bool, true, false, not, List, [], ◌∷◌, ◌++◌, length, get_or, set, take, filter, Option, None, Some, Result, Ok, Err, if◌then◌else◌, refl, sym, ap, ◌∙◌, subst, inl, inr, append_assoc, append-nil, arith, nat_lt}
+use Rattle.std.specs.Prelude.{slice_get, is_some, IsSome, OnOk, OnErr, IfOk, IfErr}
+use Rattle.std.proofs.lemmas.Bool.{cases_lt}
+use Rattle.std.proofs.lemmas.Bool.Decides.{nat_tests}
+use Rattle.std.proofs.lemmas.List.{map-append, take_more, get_or_default, set-get_or}
+use Rattle.loop_tree.specs.State.{Cells, Block, cells_numbered, cells_or_stuck, cells_at, with_cells, without, made_before}
+use Rattle.loop_tree.specs.Values.{and_then, is_live}
+use Rattle.loop_tree.specs.Machine.{changed, freed}
+use Rattle.loop_values.specs.Heap.{with_made}
+use Rattle.loop_values.specs.Slots.{Kept, block_of, living, is_living, IsRising, IsPlace, changed_slot, slot_cells, without_cells}
+
+-- ---- a number that no block has
+
+abbrev pub Lacks : ℕ → List Block → Type 0
+Lacks n [] = Unit {0}
+Lacks n (b ∷ bs) = ((b.number == n) ≡ false) × Lacks n bs
+
+pub Lacks-append : (n : ℕ) (xs ys : List Block) → Lacks n xs → Lacks n ys → Lacks n (xs ++ ys)
+Lacks-append n [] ys p q = q
+Lacks-append n (b ∷ bs) ys p q = (p.0, Lacks-append n bs ys p.1 q)
+
+pub numbered_lacks : (n : ℕ) (bs : List Block) → Lacks n bs → cells_numbered bs n ≡ None
+numbered_lacks n [] p = refl
+numbered_lacks n (b ∷ bs) p = rw p.0 (numbered_lacks n bs p.1)
+
+pub numbered_front : (n : ℕ) (xs ys : List Block) → Lacks n xs → cells_numbered (xs ++ ys) n ≡ cells_numbered ys n
+numbered_front n [] ys p = refl
+numbered_front n (b ∷ bs) ys p = rw p.0 (numbered_front n bs ys p.1)
+
+pub numbered_back : (n : ℕ) (xs ys : List Block) → Lacks n ys → cells_numbered (xs ++ ys) n ≡ cells_numbered xs n
+numbered_back n [] ys p = numbered_lacks n ys p
+numbered_back n (b ∷ bs) ys p = ap (λ r. if b.number == n then Some b.cells else r) (numbered_back n bs ys p)
+
+pub with_cells_lacks : (n : ℕ) (c : Cells) (bs : List Block) → Lacks n bs → with_cells bs n c ≡ bs
+with_cells_lacks n c [] p = refl
+with_cells_lacks n c (b ∷ bs) p = rw p.0 (ap (λ r. b ∷ r) (with_cells_lacks n c bs p.1))
+
+pub without_lacks : (n : ℕ) (bs : List Block) → Lacks n bs → without bs n ≡ bs
+without_lacks n [] p = refl
+without_lacks n (b ∷ bs) p = rw p.0 (ap (λ r. b ∷ r) (without_lacks n bs p.1))
+
+pub filter-append : {A : Type 0} (test : A → Bool) (xs ys : List A) → filter test (xs ++ ys) ≡ filter test xs ++ filter test ys
+filter-append test [] ys = refl
+filter-append test (x ∷ xs) ys =
+    elim (test x) as (λ b. (if b then x ∷ filter test (xs ++ ys) else filter test (xs ++ ys)) ≡ (if b then x ∷ filter test xs else filter test xs) ++ filter test ys)
+    [ true ↦ ap (λ r. x ∷ r) (filter-append test xs ys) | false ↦ filter-append test xs ys ]
+
+-- ---- numbers that rise
+
+pub living-append : (xs ys : List Kept) → living (xs ++ ys) ≡ living ys ++ living xs
+living-append [] ys = sym (append-nil (living ys))
+living-append (k ∷ ks) ys =
+    ap (λ r. r ++ block_of k.number k.cells) (living-append ks ys) ∙ append_assoc (living ys) (living ks) (block_of k.number k.cells)
+
+pub rising_le : (low top : ℕ) (ks : List Kept) → IsRising low top ks → low ≤ top
+rising_le low top [] h = h
+rising_le low top (k ∷ ks) h = let rest : k.number + 1 ≤ top = rising_le (k.number + 1) top ks h.1 in omega arith
+
+pub rising_from : (low top : ℕ) (ks : List Kept) (i : ℕ) (d : Kept) → IsRising low top ks → i < length ks → low ≤ (get_or ks i d).number
+rising_from low top [] i d h below = absurd (omega arith)
+rising_from low top (k ∷ ks) zero d h below = h.0
+rising_from low top (k ∷ ks) (suc i) d h below =
+    let rest : k.number + 1 ≤ (get_or ks i d).number = rising_from (k.number + 1) top ks i d h.1 (omega arith) in omega (arith, h.0)
+
+pub rising_below : (low top : ℕ) (ks : List Kept) (i : ℕ) (d : Kept) → IsRising low top ks → i < length ks → (get_or ks i d).number < top
+rising_below low top [] i d h below = absurd (omega arith)
+rising_below low top (k ∷ ks) zero d h below = let rest : k.number + 1 ≤ top = rising_le (k.number + 1) top ks h.1 in omega arith
+rising_below low top (k ∷ ks) (suc i) d h below = rising_below (k.number + 1) top ks i d h.1 (omega arith)
+
+pub rising_pairs : (low top : ℕ) (ks : List Kept) (i j : ℕ) (d : Kept) → IsRising low top ks → i < j → j < length ks → (get_or ks i d).number < (get_or ks j d).number
+rising_pairs low top [] i j d h less below = absurd (omega arith)
+rising_pairs low top (k ∷ ks) i zero d h less below = absurd (omega arith)
+rising_pairs low top (k ∷ ks) zero (suc j) d h less below =
+    let rest : k.number + 1 ≤ (get_or ks j d).number = rising_from (k.number + 1) top ks j d h.1 (omega arith) in omega arith
+rising_pairs low top (k ∷ ks) (suc i) (suc j) d h less below = rising_pairs (k.number + 1) top ks i j d h.1 (omega arith) (omega arith)
+
+pub rising_push : (low top : ℕ) (ks : List Kept) (k : Kept) → IsRising low top ks → k.number ≡ top → IsRising low (top + 1) (ks ++ k ∷ [])
+rising_push low top [] k h e = (omega arith, omega arith)
+rising_push low top (x ∷ ks) k h e = (h.0, rising_push (x.number + 1) top ks k h.1 e)
+
+-- without the last one, they are below it
+pub rising_last : (low top : ℕ) (ks : List Kept) (k : Kept) → IsRising low top (ks ++ k ∷ []) → IsRising low k.number ks
+rising_last low top [] k h = h.0
+rising_last low top (x ∷ ks) k h = (h.0, rising_last (x.number + 1) top ks k h.1)
+
+pub rising_higher : (low top more : ℕ) (ks : List Kept) → IsRising low top ks → top ≤ more → IsRising low more ks
+rising_higher low top more [] h e = omega arith
+rising_higher low top more (k ∷ ks) h e = (h.0, rising_higher (k.number + 1) top more ks h.1 e)
+
+pub rising_lower : (less low top : ℕ) (ks : List Kept) → IsRising low top ks → less ≤ low → IsRising less top ks
+rising_lower less low top [] h e = omega arith
+rising_lower less low top (k ∷ ks) h e = (omega (arith, h.0), h.1)
+
+pub rising_set : (low top : ℕ) (ks : List Kept) (i : ℕ) (new d : Kept) → IsRising low top ks → i < length ks → new.number ≡ (get_or ks i d).number → IsRising low top (set ks i new)
+rising_set low top [] i new d h below e = h
+rising_set low top (k ∷ ks) zero new d h below e = (subst (λ n. low ≤ n) (sym e) h.0, subst (λ n. IsRising (n + 1) top ks) (sym e) h.1)
+rising_set low top (k ∷ ks) (suc i) new d h below e = (h.0, rising_set (k.number + 1) top ks i new d h.1 (omega arith) e)
+
+pub rising_filter : (test : Kept → Bool) (low top : ℕ) (ks : List Kept) → IsRising low top ks → IsRising low top (filter test ks)
+rising_filter test low top [] h = h
+rising_filter test low top (k ∷ ks) h =
+    let rest : IsRising (k.number + 1) top (filter test ks) = rising_filter test (k.number + 1) top ks h.1 in
+    elim (test k) as (λ b. IsRising low top (if b then k ∷ filter test ks else filter test ks))
+    [ true ↦ (h.0, rest) | false ↦ rising_lower low (k.number + 1) top (filter test ks) rest (omega (arith, h.0)) ]
+
+-- ---- numbers that no slot has
+
+pub lacks_block : (n m : ℕ) (cells : Option Cells) → ((m == n) ≡ false) → Lacks n (block_of m cells)
+lacks_block n m None h = tt
+lacks_block n m (Some cells) h = (h, tt)
+
+pub lacks_below : (n low top : ℕ) (ks : List Kept) → IsRising low top ks → n < low → Lacks n (living ks)
+lacks_below n low top [] h less = tt
+lacks_below n low top (k ∷ ks) h less =
+    let other : (k.number == n) ≡ false = grind (arith, nat_tests, h.0) in
+    Lacks-append n (living ks) (block_of k.number k.cells) (lacks_below n (k.number + 1) top ks h.1 (omega (arith, h.0))) (lacks_block n k.number k.cells other)
+
+-- no slot has the number, as each place says
+abbrev pub Misses : ℕ → List Kept → Type 0
+Misses n ks = (i : ℕ) (d : Kept) → i < length ks → (get_or ks i d).number ≢ n
+
+pub lacks_missed : (n : ℕ) (ks : List Kept) → Misses n ks → Lacks n (living ks)
+lacks_missed n [] h = tt
+lacks_missed n (k ∷ ks) h =
+    let differs : k.number ≢ n = h 0 k (omega arith) in
+    let other : (k.number == n) ≡ false = grind (arith, nat_tests) in
+    Lacks-append n (living ks) (block_of k.number k.cells) (lacks_missed n ks (λ i d below. h (suc i) d (omega arith))) (lacks_block n k.number k.cells other)
+
+-- ---- the slot of a number
+
+same_number : (n : ℕ) → (n == n) ≡ true
+same_number n = grind (arith, nat_tests)
+
+numbered_block : (n : ℕ) (cells : Option Cells) → cells_numbered (block_of n cells) n ≡ cells
+numbered_block n None = refl
+numbered_block n (Some cells) = rw (same_number n)
+
+pub numbered_at : (low top : ℕ) (ks : List Kept) (i : ℕ) (d : Kept) → IsRising low top ks → i < length ks
+    → cells_numbered (living ks) (get_or ks i d).number ≡ (get_or ks i d).cells
+numbered_at low top [] i d h below = absurd (omega arith)
+numbered_at low top (k ∷ ks) zero d h below =
+    numbered_front k.number (living ks) (block_of k.number k.cells) (lacks_below k.number (k.number + 1) top ks h.1 (omega arith))
+    ∙ numbered_block k.number k.cells
+numbered_at low top (k ∷ ks) (suc i) d h below =
+    let n = (get_or ks i d).number in
+    let from : k.number + 1 ≤ n = rising_from (k.number + 1) top ks i d h.1 (omega arith) in
+    let other : (k.number == n) ≡ false = grind (arith, nat_tests) in
+    numbered_back n (living ks) (block_of k.number k.cells) (lacks_block n k.number k.cells other)
+    ∙ numbered_at (k.number + 1) top ks i d h.1 (omega arith)
+
+with_cells-append : (n : ℕ) (c : Cells) (xs ys : List Block) → with_cells (xs ++ ys) n c ≡ with_cells xs n c ++ with_cells ys n c
+with_cells-append n c xs ys = map-append (λ (b : Block). if b.number == n then record { number = n; cells = c } else b) xs ys
+
+with_cells_block : (n : ℕ) (c old : Cells) → with_cells (block_of n (Some old)) n c ≡ block_of n (Some c)
+with_cells_block n c old = rw (same_number n)
+
+-- other cells of one slot
+pub with_cells_at : (low top : ℕ) (ks : List Kept) (i : ℕ) (d : Kept) (old c : Cells) → IsRising low top ks → i < length ks → (get_or ks i d).cells ≡ Some old
+    → with_cells (living ks) (get_or ks i d).number c ≡ living (set ks i (record { number = (get_or ks i d).number; cells = Some c }))
+with_cells_at low top [] i d old c h below e = absurd (omega arith)
+with_cells_at low top (k ∷ ks) zero d old c h below e =
+    with_cells-append k.number c (living ks) (block_of k.number k.cells)
+    ∙ ap (λ r. r ++ with_cells (block_of k.number k.cells) k.number c) (with_cells_lacks k.number c (living ks) (lacks_below k.number (k.number + 1) top ks h.1 (omega arith)))
+    ∙ ap (λ r. living ks ++ with_cells (block_of k.number r) k.number c) e
+    ∙ ap (λ r. living ks ++ r) (with_cells_block k.number c old)
+with_cells_at low top (k ∷ ks) (suc i) d old c h below e =
+    let n = (get_or ks i d).number in
+    let from : k.number + 1 ≤ n = rising_from (k.number + 1) top ks i d h.1 (omega arith) in
+    let other : (k.number == n) ≡ false = grind (arith, nat_tests) in
+    with_cells-append n c (living ks) (block_of k.number k.cells)
+    ∙ ap (λ r. with_cells (living ks) n c ++ r) (with_cells_lacks n c (block_of k.number k.cells) (lacks_block n k.number k.cells other))
+    ∙ ap (λ r. r ++ block_of k.number k.cells) (with_cells_at (k.number + 1) top ks i d old c h.1 (omega arith) e)
+
+without-append : (n : ℕ) (xs ys : List Block) → without (xs ++ ys) n ≡ without xs n ++ without ys n
+without-append n xs ys = filter-append (λ (b : Block). not (b.number == n)) xs ys
+
+without_block : (n : ℕ) (cells : Option Cells) → without (block_of n cells) n ≡ []
+without_block n None = refl
+without_block n (Some cells) = rw (same_number n)
+
+-- one slot is freed
+pub without_at : (low top : ℕ) (ks : List Kept) (i : ℕ) (d : Kept) → IsRising low top ks → i < length ks
+    → without (living ks) (get_or ks i d).number ≡ living (set ks i (record { number = (get_or ks i d).number; cells = None }))
+without_at low top [] i d h below = absurd (omega arith)
+without_at low top (k ∷ ks) zero d h below =
+    without-append k.number (living ks) (block_of k.number k.cells)
+    ∙ ap (λ r. r ++ without (block_of k.number k.cells) k.number) (without_lacks k.number (living ks) (lacks_below k.number (k.number + 1) top ks h.1 (omega arith)))
+    ∙ ap (λ r. living ks ++ r) (without_block k.number k.cells)
+without_at low top (k ∷ ks) (suc i) d h below =
+    let n = (get_or ks i d).number in
+    let from : k.number + 1 ≤ n = rising_from (k.number + 1) top ks i d h.1 (omega arith) in
+    let other : (k.number == n) ≡ false = grind (arith, nat_tests) in
+    without-append n (living ks) (block_of k.number k.cells)
+    ∙ ap (λ r. without (living ks) n ++ r) (without_lacks n (block_of k.number k.cells) (lacks_block n k.number k.cells other))
+    ∙ ap (λ r. r ++ block_of k.number k.cells) (without_at (k.number + 1) top ks i d h.1 (omega arith))
+
+-- ---- blocks from a number on
+
+made_before-append : (mark : ℕ) (xs ys : List Block) → made_before (xs ++ ys) mark ≡ made_before xs mark ++ made_before ys mark
+made_before-append mark xs ys = filter-append (λ (b : Block). nat_lt b.number mark) xs ys
+
+made_before_block : (mark n : ℕ) (cells : Option Cells) → (nat_lt n mark ≡ true) → made_before (block_of n cells) mark ≡ block_of n cells
+made_before_block mark n None h = refl
+made_before_block mark n (Some cells) h = rw h
+
+made_after_block : (mark n : ℕ) (cells : Option Cells) → (nat_lt n mark ≡ false) → made_before (block_of n cells) mark ≡ []
+made_after_block mark n None h = refl
+made_after_block mark n (Some cells) h = rw h
+
+pub made_before_all : (mark low top : ℕ) (ks : List Kept) → IsRising low top ks → top ≤ mark → made_before (living ks) mark ≡ living ks
+made_before_all mark low top [] h e = refl
+made_before_all mark low top (k ∷ ks) h e =
+    let upto : k.number + 1 ≤ top = rising_le (k.number + 1) top ks h.1 in
+    let within : nat_lt k.number mark ≡ true = grind (arith, nat_tests) in
+    made_before-append mark (living ks) (block_of k.number k.cells)
+    ∙ ap (λ r. r ++ made_before (block_of k.number k.cells) mark) (made_before_all mark (k.number + 1) top ks h.1 e)
+    ∙ ap (λ r. living ks ++ r) (made_before_block mark k.number k.cells within)
+
+pub made_before_pop : (mark : ℕ) (ks : List Kept) (k : Kept) → mark ≤ k.number → made_before (living (ks ++ k ∷ [])) mark ≡ made_before (living ks) mark
+made_before_pop mark ks k e =
+    let past : nat_lt k.number mark ≡ false = grind (arith, nat_tests) in
+    ap (λ bs. made_before bs mark) (living-append ks (k ∷ []))
+    ∙ made_before-append mark (block_of k.number k.cells) (living ks)
+    ∙ ap (λ r. r ++ made_before (living ks) mark) (made_after_block mark k.number k.cells past)
+
+-- ---- slots that were freed
+
+pub living_pop_hole : (ks : List Kept) (k : Kept) → k.cells ≡ None → living (ks ++ k ∷ []) ≡ living ks
+living_pop_hole ks k e = living-append ks (k ∷ []) ∙ ap (λ c. block_of k.number c ++ living ks) e
+
+living_kept : (n : ℕ) (cells : Option Cells) (ks : List Kept) → living (filter is_living ks) ≡ living ks
+    → living (filter is_living (record { number = n; cells = cells } ∷ ks)) ≡ living ks ++ block_of n cells
+living_kept n None ks h = h ∙ sym (append-nil (living ks))
+living_kept n (Some cells) ks h = ap (λ bs. bs ++ block_of n (Some cells)) h
+
+pub living_filter : (ks : List Kept) → living (filter is_living ks) ≡ living ks
+living_filter [] = refl
+living_filter (k ∷ ks) = living_kept k.number k.cells ks (living_filter ks)
+
+-- ---- the place of a reference
+
+cells_of_number : (bs : List Block) (n : ℕ) (cells : Option Cells) → cells_numbered bs n ≡ cells → cells_at bs (Some n) ≡ cells_or_stuck cells
+cells_of_number bs n cells e = ap cells_or_stuck e
+
+pub place_cells : (top : ℕ) (ks : List Kept) (link : Option ℕ) (at : ℕ) (d : Kept) → IsRising 0 top ks → IsPlace ks link at → at < length ks
+    → cells_at (living ks) link ≡ cells_or_stuck (get_or ks at d).cells
+place_cells top ks link at d rises place below =
+    ap (cells_at (living ks)) (place.found d below)
+    ∙ cells_of_number (living ks) (get_or ks at d).number (get_or ks at d).cells (numbered_at 0 top ks at d rises below)
+
+-- a search that met every number
+pub no_place : (ks : List Kept) (n : ℕ) → Misses n ks → IsPlace ks (Some n) (length ks)
+no_place ks n h = record {
+  found = λ d below. absurd (omega arith);
+  none = λ past. cells_of_number (living ks) n None (numbered_lacks n (living ks) (lacks_missed n ks h));
+}
+
+pub some_place : (ks : List Kept) (n at : ℕ) → at < length ks → ((d : Kept) → (get_or ks at d).number ≡ n) → IsPlace ks (Some n) at
+some_place ks n at below h = record {
+  found = λ d within. ap Some (sym (h d));
+  none = λ past. absurd (omega arith);
+}
+
+pub no_link : (ks : List Kept) → IsPlace ks None (length ks)
+no_link ks = record { found = λ d below. absurd (omega arith); none = λ past. refl }
+
+-- ---- other cells of one slot
+
+change_all : (top : ℕ) (ks : List Kept) (at : ℕ) (d : Kept) (f : Cells → Result Cells ℕ) (cells : Option Cells) → IsRising 0 top ks → at < length ks
+    → (get_or ks at d).cells ≡ cells
+    → changed (living ks) (Some (get_or ks at d).number) f
+    ≡ and_then (and_then (cells_or_stuck cells) (λ old. and_then (f old) (λ new. Ok (record { number = (get_or ks at d).number; cells = Some new })))) (λ k. Ok (living (set ks at k)))
+change_all top ks at d f None rises below e =
+    ap (λ c. and_then (cells_or_stuck c) (λ old. and_then (f old) (λ new. Ok (with_cells (living ks) (get_or ks at d).number new))))
+    (numbered_at 0 top ks at d rises below ∙ e)
+change_all top ks at d f (Some old) rises below e =
+    ap (λ c. and_then (cells_or_stuck c) (λ old. and_then (f old) (λ new. Ok (with_cells (living ks) (get_or ks at d).number new))))
+    (numbered_at 0 top ks at d rises below ∙ e)
+    ∙ elim (f old) as (λ r. and_then r (λ new. Ok (with_cells (living ks) (get_or ks at d).number new))
+    ≡ and_then (and_then r (λ new. Ok (record { number = (get_or ks at d).number; cells = Some new }))) (λ k. Ok (living (set ks at k))))
+    [ Ok new ↦ ap Ok (with_cells_at 0 top ks at d old new rises below e) | Err why ↦ refl ]
+
+pub change_at : (top : ℕ) (ks : List Kept) (link : Option ℕ) (at : ℕ) (d : Kept) (f : Cells → Result Cells ℕ) → IsRising 0 top ks → IsPlace ks link at → at < length ks
+    → changed (living ks) link f ≡ and_then (changed_slot (get_or ks at d) f) (λ k. Ok (living (set ks at k)))
+change_at top ks link at d f rises place below =
+    ap (λ l. changed (living ks) l f) (place.found d below)
+    ∙ change_all top ks at d f (get_or ks at d).cells rises below refl
+
+changed_cells_none : (bs : List Block) (link : Option ℕ) (f : Cells → Result Cells ℕ) → cells_at bs link ≡ Err 2 → changed bs link f ≡ Err 2
+changed_cells_none bs None f e = refl
+changed_cells_none bs (Some n) f e = ap (λ r. and_then r (λ cells. and_then (f cells) (λ new. Ok (with_cells bs n new)))) e
+
+pub change_none : (ks : List Kept) (link : Option ℕ) (at : ℕ) (f : Cells → Result Cells ℕ) → IsPlace ks link at → length ks ≤ at → changed (living ks) link f ≡ Err 2
+change_none ks link at f place past = changed_cells_none (living ks) link f (place.none past)
+
+-- a slot keeps its number
+changed_number : (k new : Kept) (f : Cells → Result Cells ℕ) (cells : Option Cells)
+    → and_then (cells_or_stuck cells) (λ old. and_then (f old) (λ made. Ok (record { number = k.number; cells = Some made }))) ≡ Ok new → new.number ≡ k.number
+changed_number k new f None e = absurd (cc)
+changed_number k new f (Some old) e = number_of (f old) e
+  where
+    number_of : (r : Result Cells ℕ) → and_then r (λ made. Ok (record { number = k.number; cells = Some made })) ≡ Ok new → new.number ≡ k.number
+    number_of (Ok made) e = let same : record { number = k.number; cells = Some made } ≡ new = cc in sym (ap (λ (s : Kept). s.number) same)
+    number_of (Err why) e = absurd (cc)
+
+pub changed_same_number : (k new : Kept) (f : Cells → Result Cells ℕ) → changed_slot k f ≡ Ok new → new.number ≡ k.number
+changed_same_number k new f e = changed_number k new f k.cells e
+
+-- ---- the end of the slots
+
+pub rising_take : (low top n : ℕ) (ks : List Kept) → IsRising low top ks → IsRising low top (take n ks)
+rising_take low top zero ks h = rising_le low top ks h
+rising_take low top (suc n) [] h = h
+rising_take low top (suc n) (k ∷ ks) h = (h.0, rising_take (k.number + 1) top n ks h.1)
+
+pub before_step : (mark : ℕ) (ks : List Kept) (i : ℕ) (d : Kept) → i < length ks → mark ≤ (get_or ks i d).number
+    → made_before (living (take (i + 1) ks)) mark ≡ made_before (living (take i ks)) mark
+before_step mark ks i d below past =
+    ap (λ xs. made_before (living xs) mark) (take_more ks i d below) ∙ made_before_pop mark (take i ks) (get_or ks i d) past
+
+rising_upto : (low top : ℕ) (ks : List Kept) (i : ℕ) (d : Kept) → IsRising low top ks → i < length ks → IsRising low ((get_or ks i d).number + 1) (take (suc i) ks)
+rising_upto low top [] i d h below = absurd (omega arith)
+rising_upto low top (k ∷ ks) zero d h below = (h.0, omega arith)
+rising_upto low top (k ∷ ks) (suc i) d h below = (h.0, rising_upto (k.number + 1) top ks i d h.1 (omega arith))
+
+pub before_end : (mark top : ℕ) (ks : List Kept) (i : ℕ) (d : Kept) → IsRising 0 top ks → i < length ks → (get_or ks i d).number < mark
+    → made_before (living (take (i + 1) ks)) mark ≡ living (take (i + 1) ks)
+before_end mark top ks i d h below less =
+    let e : suc i ≡ i + 1 = omega arith in
+    let rises : IsRising 0 ((get_or ks i d).number + 1) (take (i + 1) ks) = subst (λ n. IsRising 0 ((get_or ks i d).number + 1) (take n ks)) e (rising_upto 0 top ks i d h below) in
+    made_before_all mark 0 ((get_or ks i d).number + 1) (take (i + 1) ks) rises (omega arith)
+
+pub hole_step : (ks : List Kept) (i : ℕ) (d : Kept) → i < length ks → (get_or ks i d).cells ≡ None → living (take (i + 1) ks) ≡ living (take i ks)
+hole_step ks i d below e = ap living (take_more ks i d below) ∙ living_pop_hole (take i ks) (get_or ks i d) e
+
+-- ---- a slot read by `get`
+
+slot_at : (ks : List Kept) (at : ℕ) (d : Kept) → at < length ks → slice_get ks at ≡ Some (get_or ks at d)
+slot_at [] at d below = absurd (omega arith)
+slot_at (k ∷ ks) zero d below = refl
+slot_at (k ∷ ks) (suc at) d below = slot_at ks at d (omega arith)
+
+slot_past : (ks : List Kept) (at : ℕ) → length ks ≤ at → slice_get ks at ≡ None
+slot_past [] at past = refl
+slot_past (k ∷ ks) zero past = absurd (omega arith)
+slot_past (k ∷ ks) (suc at) past = slot_past ks at (omega arith)
+
+nothing : Kept
+nothing = record { number = 0; cells = None }
+
+pub place_slot : (top : ℕ) (ks : List Kept) (link : Option ℕ) (at : ℕ) → IsRising 0 top ks → IsPlace ks link at
+    → cells_at (living ks) link ≡ slot_cells (slice_get ks at)
+place_slot top ks link at rises place = by_order (cases_lt at (length ks))
+  where
+    by_order : (at < length ks) ⊎ (length ks ≤ at) → cells_at (living ks) link ≡ slot_cells (slice_get ks at)
+    by_order (inl below) = place_cells top ks link at nothing rises place below ∙ ap slot_cells (sym (slot_at ks at nothing below))
+    by_order (inr past) = place.none past ∙ ap slot_cells (sym (slot_past ks at past))
+
+without_slot : (ks : List Kept) (at : ℕ) (d : Kept) → at < length ks → set ks at (record { number = (get_or ks at d).number; cells = None }) ≡ without_cells ks at
+without_slot [] at d below = absurd (omega arith)
+without_slot (k ∷ ks) zero d below = refl
+without_slot (k ∷ ks) (suc at) d below = ap (λ r. k ∷ r) (without_slot ks at d (omega arith))
+
+pub rising_without : (low top : ℕ) (ks : List Kept) (at : ℕ) → IsRising low top ks → IsRising low top (without_cells ks at)
+rising_without low top [] at h = h
+rising_without low top (k ∷ ks) zero h = h
+rising_without low top (k ∷ ks) (suc at) h = (h.0, rising_without (k.number + 1) top ks at h.1)
+
+-- the block of a place is freed, where one lives there
+pub free_place : (top : ℕ) (ks : List Kept) (link : Option ℕ) (at : ℕ) → IsRising 0 top ks → IsPlace ks link at → is_live (slot_cells (slice_get ks at)) ≡ true
+    → living (without_cells ks at) ≡ freed (living ks) link
+free_place top ks link at rises place live = by_order (cases_lt at (length ks))
+  where
+    by_order : (at < length ks) ⊎ (length ks ≤ at) → living (without_cells ks at) ≡ freed (living ks) link
+    by_order (inl below) =
+        ap living (sym (without_slot ks at nothing below))
+        ∙ sym (without_at 0 top ks at nothing rises below)
+        ∙ ap (freed (living ks)) (sym (place.found nothing below))
+    by_order (inr past) =
+        let none : is_live (slot_cells (slice_get ks at)) ≡ false = ap (λ o. is_live (slot_cells o)) (slot_past ks at past) in
+        absurd (cc)
+
+-- ---- in the words of the code
+
+before_drop_suc : (mark : ℕ) (ks : List Kept) (end : ℕ) (d : Kept) → 0 < end → end ≤ length ks → mark ≤ (get_or ks (end - 1) d).number
+    → made_before (living (take end ks)) mark ≡ made_before (living (take (end - 1) ks)) mark
+before_drop_suc mark ks end d some within past =
+    let e : end ≡ end - 1 + 1 = omega arith in
+    ap (λ n. made_before (living (take n ks)) mark) e ∙ before_step mark ks (end - 1) d (omega arith) past
+
+pub before_drop : (mark : ℕ) (ks : List Kept) (end : ℕ) (k : Kept) → 0 < end → end ≤ length ks → k ≡ get_or ks (end - 1) k → mark ≤ k.number
+    → made_before (living (take end ks)) mark ≡ made_before (living ks) mark → made_before (living (take (end - 1) ks)) mark ≡ made_before (living ks) mark
+before_drop mark ks end k some within is past before =
+    let far : mark ≤ (get_or ks (end - 1) k).number = subst (λ (x : Kept). mark ≤ x.number) is past in
+    sym (before_drop_suc mark ks end k some within far) ∙ before
+
+pub before_stop : (mark top : ℕ) (ks : List Kept) (end : ℕ) (k : Kept) → IsRising 0 top ks → 0 < end → end ≤ length ks → k ≡ get_or ks (end - 1) k → k.number < mark
+    → made_before (living (take end ks)) mark ≡ made_before (living ks) mark → living (take end ks) ≡ made_before (living ks) mark
+before_stop mark top ks end k rises some within is less before =
+    let near : (get_or ks (end - 1) k).number < mark = subst (λ (x : Kept). x.number < mark) is less in
+    let e : end - 1 + 1 ≡ end = omega arith in
+    let stays : made_before (living (take end ks)) mark ≡ living (take end ks) =
+    subst (λ n. made_before (living (take n ks)) mark ≡ living (take n ks)) e (before_end mark top ks (end - 1) k rises (omega arith) near) in
+    sym stays ∙ before
+
+no_cells : (o : Option Cells) → is_some o ≡ false → o ≡ None
+no_cells None h = refl
+no_cells (Some c) h = absurd (cc)
+
+pub hole_drop : (ks : List Kept) (end : ℕ) (k : Kept) → 0 < end → end ≤ length ks → k ≡ get_or ks (end - 1) k → is_living k ≡ false
+    → living (take end ks) ≡ living ks → living (take (end - 1) ks) ≡ living ks
+hole_drop ks end k some within is hole before =
+    let gone : (get_or ks (end - 1) k).cells ≡ None = subst (λ (x : Kept). x.cells ≡ None) is (no_cells k.cells hole) in
+    let e : end - 1 + 1 ≡ end = omega arith in
+    let step : living (take end ks) ≡ living (take (end - 1) ks) =
+    subst (λ n. living (take n ks) ≡ living (take (end - 1) ks)) e (hole_step ks (end - 1) k (omega arith) gone) in
+    sym step ∙ before
+
+-- what a search by halves knows
+pub less_on : (top : ℕ) (ks : List Kept) (middle n : ℕ) (k : Kept) → IsRising 0 top ks → middle < length ks → k ≡ get_or ks middle k → k.number < n
+    → (i : ℕ) (d : Kept) → i < middle + 1 → (get_or ks i d).number < n
+less_on top ks middle n k rises within is less i d below = by_order (cases_lt i middle)
+  where
+    by_order : (i < middle) ⊎ (middle ≤ i) → (get_or ks i d).number < n
+    by_order (inl before) =
+        let order : (get_or ks i d).number < (get_or ks middle d).number = rising_pairs 0 top ks i middle d rises before within in
+        let same : get_or ks middle d ≡ k = get_or_default ks middle d k within ∙ sym is in
+        let same_number : (get_or ks middle d).number ≡ k.number = ap (λ (x : Kept). x.number) same in
+        omega arith
+    by_order (inr from) =
+        let at : i ≡ middle = omega arith in
+        let same : get_or ks i d ≡ k = ap (λ j. get_or ks j d) at ∙ get_or_default ks middle d k within ∙ sym is in
+        let same_number : (get_or ks i d).number ≡ k.number = ap (λ (x : Kept). x.number) same in
+        omega arith
+
+pub more_on : (top : ℕ) (ks : List Kept) (middle n : ℕ) (k : Kept) → IsRising 0 top ks → middle < length ks → k ≡ get_or ks middle k → n < k.number
+    → (i : ℕ) (d : Kept) → middle ≤ i → i < length ks → n < (get_or ks i d).number
+more_on top ks middle n k rises within is more i d from below = by_order (cases_lt middle i)
+  where
+    by_order : (middle < i) ⊎ (i ≤ middle) → n < (get_or ks i d).number
+    by_order (inl behind) =
+        let order : (get_or ks middle d).number < (get_or ks i d).number = rising_pairs 0 top ks middle i d rises behind below in
+        let same : get_or ks middle d ≡ k = get_or_default ks middle d k within ∙ sym is in
+        let same_number : (get_or ks middle d).number ≡ k.number = ap (λ (x : Kept). x.number) same in
+        omega arith
+    by_order (inr upto) =
+        let at : i ≡ middle = omega arith in
+        let same : get_or ks i d ≡ k = ap (λ j. get_or ks j d) at ∙ get_or_default ks middle d k within ∙ sym is in
+        let same_number : (get_or ks i d).number ≡ k.number = ap (λ (x : Kept). x.number) same in
+        omega arith
+
+pub missed : (ks : List Kept) (low high n : ℕ) → high ≤ low → ((i : ℕ) (d : Kept) → i < low → (get_or ks i d).number < n)
+    → ((i : ℕ) (d : Kept) → high ≤ i → i < length ks → n < (get_or ks i d).number) → Misses n ks
+missed ks low high n met less more i d below = by_order (cases_lt i low)
+  where
+    by_order : (i < low) ⊎ (low ≤ i) → (get_or ks i d).number ≢ n
+    by_order (inl before) = let under : (get_or ks i d).number < n = less i d before in omega arith
+    by_order (inr from) = let above : n < (get_or ks i d).number = more i d (omega arith) below in omega arith
+
+-- a store into the slot of a reference
+pub store_ok : {U : Type 0} (r : Result U ℕ) (top : ℕ) (ks : List Kept) (link : Option ℕ) (at : ℕ) (k new : Kept) (f : Cells → Result Cells ℕ)
+    → IsRising 0 top ks → IsPlace ks link at → at < length ks → k ≡ get_or ks at k → OnOk r (changed_slot k f ≡ Ok new)
+    → OnOk r (changed (living ks) link f ≡ Ok (living (set ks at new)))
+store_ok (Err why) top ks link at k new f rises place below is done = tt
+store_ok (Ok u) top ks link at k new f rises place below is done =
+    let here : changed_slot (get_or ks at k) f ≡ Ok new = subst (λ x. changed_slot x f ≡ Ok new) is done in
+    change_at top ks link at k f rises place below ∙ ap (λ r. and_then r (λ x. Ok (living (set ks at x)))) here
+
+pub store_err : {U : Type 0} (r : Result U ℕ) (top : ℕ) (ks : List Kept) (link : Option ℕ) (at : ℕ) (k : Kept) (f : Cells → Result Cells ℕ)
+    → IsRising 0 top ks → IsPlace ks link at → at < length ks → k ≡ get_or ks at k → IfErr r (λ why. changed_slot k f ≡ Err why)
+    → IfErr r (λ why. changed (living ks) link f ≡ Err why)
+store_err (Ok u) top ks link at k f rises place below is done = tt
+store_err (Err why) top ks link at k f rises place below is done =
+    let here : changed_slot (get_or ks at k) f ≡ Err why = subst (λ x. changed_slot x f ≡ Err why) is done in
+    change_at top ks link at k f rises place below ∙ ap (λ r. and_then r (λ x. Ok (living (set ks at x)))) here
+
+pub store_rising : {U : Type 0} (r : Result U ℕ) (top : ℕ) (ks : List Kept) (at : ℕ) (k new : Kept) (f : Cells → Result Cells ℕ)
+    → IsRising 0 top ks → at < length ks → k ≡ get_or ks at k → OnOk r (changed_slot k f ≡ Ok new) → OnErr r (new ≡ k) → IsRising 0 top (set ks at new)
+store_rising (Ok u) top ks at k new f rises below is done stays =
+    rising_set 0 top ks at new k rises below (changed_same_number k new f done ∙ ap (λ (x : Kept). x.number) is)
+store_rising (Err why) top ks at k new f rises below is done stays =
+    rising_set 0 top ks at new k rises below (ap (λ (x : Kept). x.number) (stays ∙ is))
+
+pub store_stays : {U : Type 0} (r : Result U ℕ) (ks : List Kept) (at : ℕ) (k new : Kept) → k ≡ get_or ks at k → OnErr r (new ≡ k) → OnErr r (set ks at new ≡ ks)
+store_stays (Ok u) ks at k new is stays = tt
+store_stays (Err why) ks at k new is stays = ap (set ks at) (stays ∙ is) ∙ set-get_or ks at k
+
+-- a slot is freed where it stands
+pub free_slot : (ks : List Kept) (at : ℕ) (k new : Kept) → at < length ks → k ≡ get_or ks at k → new.number ≡ k.number → new.cells ≡ None → set ks at new ≡ without_cells ks at
+free_slot ks at k new below is number cells =
+    let same : new ≡ record { number = (get_or ks at k).number; cells = None } =
+    ap (λ n. record { number = n; cells = new.cells }) (number ∙ ap (λ (x : Kept). x.number) is) ∙ ap (λ c. record { number = (get_or ks at k).number; cells = c }) cells in
+    ap (set ks at) same ∙ without_slot ks at k below
+
+-- a block that is made
+pub add_living : (ks : List Kept) (made more : ℕ) (cells : Option Cells) (k : Kept) → IsSome cells → k.number ≡ made → k.cells ≡ cells → more ≡ made + 1
+    → with_made (record { blocks = living ks; made = made }) (cells_or_stuck cells) ≡ Ok (record { blocks = living (ks ++ k ∷ []); made = more })
+add_living ks made more None k some number is e = cc some
+add_living ks made more (Some cells) k some number is e =
+    let block : block_of k.number k.cells ≡ block_of made (Some cells) = ap (λ n. block_of n k.cells) number ∙ ap (block_of made) is in
+    let blocks : living (ks ++ k ∷ []) ≡ block_of made (Some cells) ++ living ks = living-append ks (k ∷ []) ∙ ap (λ bs. bs ++ living ks) block in
+    ap (λ bs. Ok (record { blocks = bs; made = made + 1 })) (sym blocks) ∙ ap (λ n. Ok (record { blocks = living (ks ++ k ∷ []); made = n })) (sym e)
+
+dead_is : (r : Result Cells ℕ) (o : Option Kept) → r ≡ slot_cells o → is_live (slot_cells o) ≡ false → r ≡ Err 2
+dead_is r None e h = e
+dead_is r (Some k) e h = e ∙ dead k.cells h
+  where
+    dead : (c : Option Cells) → is_live (cells_or_stuck c) ≡ false → cells_or_stuck c ≡ Err 2
+    dead None h = refl
+    dead (Some cells) h = absurd (cc)
+
+-- a reference to nothing that lives
+pub dead_place : (top : ℕ) (ks : List Kept) (link : Option ℕ) (at : ℕ) → IsRising 0 top ks → IsPlace ks link at → is_live (slot_cells (slice_get ks at)) ≡ false
+    → cells_at (living ks) link ≡ Err 2
+dead_place top ks link at rises place h = dead_is (cells_at (living ks) link) (slice_get ks at) (place_slot top ks link at rises place) h
+
+-- ---- the same where memory may be refused first
+
+pub grow_ok : {U E : Type 0} (r : Result (Result U ℕ) E) (top : ℕ) (ks : List Kept) (link : Option ℕ) (at : ℕ) (k new : Kept) (f : Cells → Result Cells ℕ)
+    → IsRising 0 top ks → IsPlace ks link at → at < length ks → k ≡ get_or ks at k → IfOk r (λ done. OnOk done (changed_slot k f ≡ Ok new))
+    → IfOk r (λ done. OnOk done (changed (living ks) link f ≡ Ok (living (set ks at new))))
+grow_ok (Err e) top ks link at k new f rises place below is done = tt
+grow_ok (Ok r) top ks link at k new f rises place below is done = store_ok r top ks link at k new f rises place below is done
+
+pub grow_err : {U E : Type 0} (r : Result (Result U ℕ) E) (top : ℕ) (ks : List Kept) (link : Option ℕ) (at : ℕ) (k : Kept) (f : Cells → Result Cells ℕ)
+    → IsRising 0 top ks → IsPlace ks link at → at < length ks → k ≡ get_or ks at k → IfOk r (λ done. IfErr done (λ why. changed_slot k f ≡ Err why))
+    → IfOk r (λ done. IfErr done (λ why. changed (living ks) link f ≡ Err why))
+grow_err (Err e) top ks link at k f rises place below is done = tt
+grow_err (Ok r) top ks link at k f rises place below is done = store_err r top ks link at k f rises place below is done
+
+pub grow_rising : {U E : Type 0} (r : Result (Result U ℕ) E) (top : ℕ) (ks : List Kept) (at : ℕ) (k new : Kept) (f : Cells → Result Cells ℕ)
+    → IsRising 0 top ks → at < length ks → k ≡ get_or ks at k → IfOk r (λ done. OnOk done (changed_slot k f ≡ Ok new)) → IfOk r (λ done. OnErr done (new ≡ k)) → OnErr r (new ≡ k)
+    → IsRising 0 top (set ks at new)
+grow_rising (Ok r) top ks at k new f rises below is done stays memory = store_rising r top ks at k new f rises below is done stays
+grow_rising (Err e) top ks at k new f rises below is done stays memory =
+    rising_set 0 top ks at new k rises below (ap (λ (x : Kept). x.number) (memory ∙ is))

@@ -1,0 +1,4 @@
+pub mod Heap
+pub mod Held
+pub mod Slots
+pub mod Spread

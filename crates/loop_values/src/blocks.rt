@@ -1,0 +1,361 @@
+ghost use Rattle.std.specs.Prelude.{◌≡◌, ◌≤◌, pos, [], IfOk, IfErr, IsSome, IsTrue, OnOk, OnErr, is_ok, false, filter, length, slice_get, take};
+ghost use Rattle.std.specs.Option.{option_copied};
+ghost use Rattle.loop_tree.specs.State.{cells_at, cells_or_stuck, made_before};
+ghost use Rattle.loop_tree.specs.Values.{and_then, ints_at, texts_at, int_cell, text_cell, cell_count, grown, is_live, zeros, texts_of_length};
+ghost use Rattle.loop_tree.specs.Machine.{changed, store_int, store_text, freed};
+ghost use Rattle.loop_values.specs.Heap.{with_made};
+ghost use Rattle.loop_values.specs.Held.{cells_in};
+ghost use Rattle.loop_values.specs.Slots.{living, is_living, IsPlace, IsRising, slot_cells, without_cells};
+
+use crate::link::Link;
+use crate::slot::{self, Held, Slot};
+use a95_base::Bytes;
+use std::alloc::{AllocError, Global};
+use std::marker::Model;
+
+// With fewer freed slots than this, none is given back but at the end.
+const MANY: usize = 64;
+
+/// The blocks of a running program. Contracts see those that live, newest first, and how many were ever made.
+#[derive(Drop)]
+pub struct Blocks {
+    alloc: Global,
+    // In the order in which they were made.
+    slots: Vec<Slot>,
+    made: u64,
+    // How many of the slots were freed, as far as known: when they are given back rests on it, and nothing else.
+    holes: usize,
+}
+
+impl Model for Blocks {
+    ghost use Rattle.loop_values.specs.Heap.{Heap};
+    ghost use Rattle.loop_values.specs.Slots.{living, IsRising};
+
+    ghost Value = { Heap };
+
+    ghost view = { λ b. record { blocks = living b.slots.items; made = b.made } };
+
+    ghost invariant = { λ b. IsRising 0 b.made b.slots.items };
+}
+
+impl Blocks {
+    /// No block was made. Takes no memory.
+    pub fn new(alloc: Global) -> Blocks
+        ensures blocks { result.blocks ≡ [] }
+        ensures made { result.made ≡ 0 }
+    {
+        Blocks {
+            alloc,
+            slots: Vec::new(alloc),
+            made: 0,
+            holes: 0,
+        }
+    }
+
+    /// How many blocks were ever made: the number of the next one.
+    pub fn made(&self) -> u64
+        ensures { result ≡ self.now.made }
+    {
+        self.made
+    }
+
+    /// Cell i of a block of integers. Err(2): there is no such block. Err(1): the block has no such cell.
+    #[inline]
+    pub fn int_cell(&self, link: Option<Link>, i: i64) -> Result<i64, u8>
+        ensures { result ≡ and_then (ints_at self.now.blocks link) (λ cells. int_cell cells i) }
+    {
+        match slot_of(&self.slots, self.made, &link) {
+            Some(slot) => slot.int_cell(i),
+            None => Err(2),
+        }
+    }
+
+    /// Cell i of a block of texts. Err(2): there is no such block. Err(1): the block has no such cell.
+    #[inline]
+    pub fn text_cell(&self, link: Option<Link>, i: i64) -> Result<&[u8], u8>
+        ensures ok { IfOk result (λ text. and_then (texts_at self.now.blocks link) (λ cells. text_cell cells i) ≡ Ok text.now) }
+        ensures err { IfErr result (λ why. and_then (texts_at self.now.blocks link) (λ cells. text_cell cells i) ≡ Err why) }
+    {
+        match slot_of(&self.slots, self.made, &link) {
+            Some(slot) => slot.text_cell(i),
+            None => Err(2),
+        }
+    }
+
+    /// How many cells a block has. Err(2): there is no such block.
+    pub fn size(&self, link: Option<Link>) -> Result<i64, u8>
+        ensures { result ≡ and_then (cells_at self.now.blocks link) (λ cells. Ok (pos (cell_count cells))) }
+    {
+        match slot_of(&self.slots, self.made, &link) {
+            Some(slot) => slot.size(),
+            None => Err(2),
+        }
+    }
+
+    /// Whether a reference leads to a living block.
+    pub fn is_live(&self, link: Option<Link>) -> bool
+        ensures { result ≡ is_live (cells_at self.now.blocks link) }
+    {
+        match slot_of(&self.slots, self.made, &link) {
+            Some(slot) => slot.is_living(),
+            None => false,
+        }
+    }
+
+    /// The same as a result. Err(2): there is no such block.
+    pub fn check(&self, link: Option<Link>) -> Result<(), u8>
+        ensures live { is_ok result ≡ is_live (cells_at self.now.blocks link) }
+        ensures err { IfErr result (λ why. cells_at self.now.blocks link ≡ Err why) }
+    {
+        if self.is_live(link) { Ok(()) } else { Err(2) }
+    }
+
+    /// Sets cell i of a block of integers. Err(2): there is no such block. Err(1): the block has no such cell.
+    #[inline]
+    pub fn store_int(&mut self, link: Option<Link>, i: i64, value: i64) -> Result<(), u8>
+        ensures ok { OnOk result (changed self.old.blocks link (store_int i value) ≡ Ok self.new.blocks) }
+        ensures err { IfErr result (λ why. changed self.old.blocks link (store_int i value) ≡ Err why) }
+        ensures made { self.new.made ≡ self.old.made }
+        ensures stays { OnErr result (self.new ≡ self.old) }
+    {
+        let at = place_of(&self.slots, self.made, &link);
+        if at >= self.slots.len() {
+            return Err(2);
+        }
+        self.slots[at].store_int(i, value)
+    }
+
+    /// Sets cell i of a block of texts. Err(2): there is no such block. Err(1): the block has no such cell.
+    #[inline]
+    pub fn store_text(&mut self, link: Option<Link>, i: i64, value: Bytes) -> Result<(), u8>
+        ensures ok { OnOk result (changed self.old.blocks link (store_text i value) ≡ Ok self.new.blocks) }
+        ensures err { IfErr result (λ why. changed self.old.blocks link (store_text i value) ≡ Err why) }
+        ensures made { self.new.made ≡ self.old.made }
+        ensures stays { OnErr result (self.new ≡ self.old) }
+    {
+        let at = place_of(&self.slots, self.made, &link);
+        if at >= self.slots.len() {
+            return Err(2);
+        }
+        self.slots[at].store_text(i, value)
+    }
+
+    /// Makes a block of zeros. Err(5): the size is negative or above 2^24.
+    pub fn new_ints(&mut self, count: i64) -> Result<Result<Link, u8>, AllocError>
+        ensures ok { IfOk result (λ made. OnOk made (with_made self.old (zeros count) ≡ Ok self.new)) }
+        ensures link { IfOk result (λ made. IfOk made (λ link. link ≡ self.old.made)) }
+        ensures err { IfOk result (λ made. IfErr made (λ why. zeros count ≡ Err why)) }
+        ensures stays { IfOk result (λ made. OnErr made (self.new ≡ self.old)) }
+        ensures memory { OnErr result (self.new ≡ self.old) }
+    {
+        match slot::zeros(self.alloc, count)? {
+            Ok(held) => Ok(Ok(self.add(held)?)),
+            Err(why) => Ok(Err(why)),
+        }
+    }
+
+    /// Makes a block of texts of so many blanks. Err(5): the number of texts is negative or above 2^24, or their
+    /// length is outside 0 to 255.
+    pub fn new_texts(&mut self, count: i64, size: i64) -> Result<Result<Link, u8>, AllocError>
+        ensures ok { IfOk result (λ made. OnOk made (with_made self.old (texts_of_length count size) ≡ Ok self.new)) }
+        ensures link { IfOk result (λ made. IfOk made (λ link. link ≡ self.old.made)) }
+        ensures err { IfOk result (λ made. IfErr made (λ why. texts_of_length count size ≡ Err why)) }
+        ensures stays { IfOk result (λ made. OnErr made (self.new ≡ self.old)) }
+        ensures memory { OnErr result (self.new ≡ self.old) }
+    {
+        match slot::texts_of_length(self.alloc, count, size)? {
+            Ok(held) => Ok(Ok(self.add(held)?)),
+            Err(why) => Ok(Err(why)),
+        }
+    }
+
+    /// Adds so many cells at the end of a block, zeros or empty texts. Err(2): there is no such block. Err(5): the
+    /// number is negative, or the block would have more than 2^24 cells.
+    pub fn grow(&mut self, link: Option<Link>, count: i64) -> Result<Result<(), u8>, AllocError>
+        ensures ok { IfOk result (λ done. OnOk done (changed self.old.blocks link (λ cells. grown cells count) ≡ Ok self.new.blocks)) }
+        ensures err { IfOk result (λ done. IfErr done (λ why. changed self.old.blocks link (λ cells. grown cells count) ≡ Err why)) }
+        ensures made { self.new.made ≡ self.old.made }
+        ensures stays { IfOk result (λ done. OnErr done (self.new ≡ self.old)) }
+        ensures memory { OnErr result (self.new ≡ self.old) }
+    {
+        let alloc = self.alloc;
+        let at = place_of(&self.slots, self.made, &link);
+        if at >= self.slots.len() {
+            return Ok(Err(2));
+        }
+        self.slots[at].grow(alloc, count)
+    }
+
+    /// Gives a block back. Err(2): there is no such block.
+    pub fn free(&mut self, link: Option<Link>) -> Result<(), u8>
+        ensures ok { OnOk result (self.new.blocks ≡ freed self.old.blocks link) }
+        ensures live { is_ok result ≡ is_live (cells_at self.old.blocks link) }
+        ensures err { IfErr result (λ why. cells_at self.old.blocks link ≡ Err why) }
+        ensures made { self.new.made ≡ self.old.made }
+        ensures stays { OnErr result (self.new ≡ self.old) }
+    {
+        let at = place_of(&self.slots, self.made, &link);
+        if !free_at(&mut self.slots, at) {
+            return Err(2);
+        }
+        self.holes = give_back(&mut self.slots, self.made, self.holes.saturating_add(1));
+        Ok(())
+    }
+
+    /// Gives all blocks back that have this number or a greater one.
+    pub fn free_from(&mut self, mark: u64)
+        ensures blocks { self.new.blocks ≡ made_before self.old.blocks mark }
+        ensures made { self.new.made ≡ self.old.made }
+    {
+        let end = end_before(&self.slots, self.made, mark);
+        if end < self.slots.len() {
+            let holes = holes_from(&self.slots, end);
+            self.slots.truncate(end);
+            self.holes = give_back(&mut self.slots, self.made, self.holes.saturating_sub(holes));
+        }
+    }
+
+    // A new slot at the end.
+    fn add(&mut self, held: Held) -> Result<Link, AllocError>
+        requires { IsSome (cells_in held) }
+        ensures ok { OnOk result (with_made self.old (cells_or_stuck (cells_in held)) ≡ Ok self.new) }
+        ensures link { IfOk result (λ link. link ≡ self.old.made) }
+        ensures memory { OnErr result (self.new ≡ self.old) }
+    {
+        let number = self.made;
+        if number == u64::MAX {
+            return Err(AllocError);
+        }
+        let hint = self.slots.len();
+        self.slots.push(Slot::new(number, held))?;
+        self.made = number + 1;
+        Ok(Link::new(number, hint))
+    }
+}
+
+// The place of the slot that a reference leads to, past the end where there is none. Mostly it is where it was.
+#[inline]
+fn place_of(slots: &[Slot], made: u64, link: &Option<Link>) -> usize
+    requires { IsRising 0 made slots.now }
+    ensures { IsPlace slots.now link.now result }
+{
+    match link {
+        Some(link) => {
+            let hint = link.hint();
+            if hint < slots.len() && slots[hint].number() == link.number() {
+                return hint;
+            }
+            search(slots, made, link.number())
+        }
+        None => slots.len(),
+    }
+}
+
+// The place of the slot with this number, past the end where there is none.
+#[cold]
+#[inline(never)]
+fn search(slots: &[Slot], made: u64, number: u64) -> usize
+    requires { IsRising 0 made slots.now }
+    ensures { IsPlace slots.now (Some number) result }
+{
+    let mut low = 0;
+    let mut high = slots.len();
+    while low < high {
+        let middle = low + (high - low) / 2;
+        let found = slots[middle].number();
+        if found == number {
+            return middle;
+        }
+        if found < number {
+            low = middle + 1;
+        } else {
+            high = middle;
+        }
+    }
+    slots.len()
+}
+
+// The slot that a reference leads to, if there is one.
+#[inline]
+fn slot_of<'a>(slots: &'a [Slot], made: u64, link: &Option<Link>) -> Option<&'a Slot>
+    requires { IsRising 0 made slots.now }
+    ensures { cells_at (living slots.entry.now) link.now ≡ slot_cells (option_copied result) }
+{
+    nth(slots, place_of(slots, made, link))
+}
+
+fn nth(slots: &[Slot], at: usize) -> Option<&Slot>
+    ensures { option_copied result ≡ slice_get slots.now at }
+{
+    slots.get(at)
+}
+
+// Frees the cells at a place, if there are any. Answers whether there were.
+fn free_at(slots: &mut Vec<Slot>, at: usize) -> bool
+    ensures live { result ≡ is_live (slot_cells (slice_get slots.old.items at)) }
+    ensures freed { IsTrue result → slots.new.items ≡ without_cells slots.old.items at }
+    ensures stays { result ≡ false → slots.new.items ≡ slots.old.items }
+{
+    if at >= slots.len() || !slots[at].is_living() {
+        return false;
+    }
+    slots[at].free();
+    true
+}
+
+// How many slots were made before a mark.
+fn end_before(slots: &[Slot], made: u64, mark: u64) -> usize
+    requires { IsRising 0 made slots.now }
+    ensures within { result ≤ length slots.now }
+    ensures before { living (take result slots.now) ≡ made_before (living slots.now) mark }
+{
+    let mut end = slots.len();
+    while end > 0 && slots[end - 1].number() >= mark {
+        end -= 1;
+    }
+    end
+}
+
+// How many slots from a place on were freed.
+fn holes_from(slots: &[Slot], from: usize) -> usize
+    requires { from ≤ length slots.now }
+{
+    slots[from..]
+        .iter()
+        .filter(|slot| !slot.is_living())
+        .count()
+}
+
+// Gives slots back that were freed: those at the end, and all where they are many. Answers how many are left.
+fn give_back(slots: &mut Vec<Slot>, made: u64, holes: usize) -> usize
+    requires { IsRising 0 made slots.old.items }
+    ensures living { living slots.new.items ≡ living slots.old.items }
+    ensures rising { IsRising 0 made slots.new.items }
+{
+    let end = end_of_living(slots);
+    let left = holes.saturating_sub(slots.len() - end);
+    slots.truncate(end);
+    if left < MANY || left <= end / 2 {
+        return left;
+    }
+    keep_living(slots);
+    0
+}
+
+fn keep_living(slots: &mut Vec<Slot>)
+    ensures { slots.new.items ≡ filter is_living slots.old.items }
+{
+    slots.retain(|slot| slot.is_living());
+}
+
+// How many slots there are without the freed ones at the end.
+fn end_of_living(slots: &[Slot]) -> usize
+    ensures within { result ≤ length slots.now }
+    ensures living { living (take result slots.now) ≡ living slots.now }
+{
+    let mut end = slots.len();
+    while end > 0 && !slots[end - 1].is_living() {
+        end -= 1;
+    }
+    end
+}

@@ -1,0 +1,75 @@
+//! The built-ins on integers.
+ghost use Rattle.std.specs.Prelude.{◌≡◌};
+ghost use Rattle.std.specs.Int.{w64, int_bit_xor};
+ghost use Rattle.a95_base.specs.Integer.{wrapped};
+ghost use Rattle.loop_tree.specs.Values.{operation, power, quotient, remainder, truth};
+
+use a95_base::wrap32;
+use loop_tree::Operator;
+
+/// What an operator gives. Arithmetic wraps at 64 bits, and division cuts off toward 0. Err(3): the divisor is 0.
+#[tactic(auto, unfolding(loop_tree::specs::Values::operation))]
+pub fn operation(op: Operator, x: i64, y: i64) -> Result<i64, u8>
+    ensures { result ≡ operation op x y }
+{
+    match op {
+        Operator::Add => Ok(x.wrapping_add(y)),
+        Operator::Subtract => Ok(x.wrapping_sub(y)),
+        Operator::Multiply => Ok(x.wrapping_mul(y)),
+        Operator::Divide => quotient(x, y),
+        Operator::Remainder => remainder(x, y),
+        Operator::Less => Ok(truth(x < y)),
+        Operator::LessEqual => Ok(truth(x <= y)),
+        Operator::Equal => Ok(truth(x == y)),
+        Operator::NotEqual => Ok(truth(x != y)),
+        Operator::And => Ok(x & y),
+        Operator::Or => Ok(x | y),
+    }
+}
+
+fn quotient(x: i64, y: i64) -> Result<i64, u8>
+    ensures { result ≡ quotient x y }
+{
+    if y == 0 {
+        return Err(3);
+    }
+    Ok(x.wrapping_div(y))
+}
+
+fn remainder(x: i64, y: i64) -> Result<i64, u8>
+    ensures { result ≡ remainder x y }
+{
+    if y == 0 {
+        return Err(3);
+    }
+    Ok(x.wrapping_rem(y))
+}
+
+fn truth(b: bool) -> i64
+    ensures { result ≡ truth b }
+{
+    i64::from(b)
+}
+
+/// What is left in 32 bits.
+pub fn wrap(x: i64) -> i64
+    ensures { result ≡ wrapped x }
+{
+    i64::from(wrap32(x))
+}
+
+/// The power of two numbers of 32 bits. Err(9): the exponent is negative.
+pub fn power(x: i64, y: i64) -> Result<i64, u8>
+    ensures { result ≡ power x y }
+{
+    match u32::try_from(wrap32(y)) {
+        Ok(exponent) => Ok(wrap(wrap(x).wrapping_pow(exponent))),
+        Err(_) => Err(9),
+    }
+}
+
+pub fn xor(x: i64, y: i64) -> i64
+    ensures { result ≡ int_bit_xor w64 x y }
+{
+    x ^ y
+}

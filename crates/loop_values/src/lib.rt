@@ -1,0 +1,17 @@
+//! What a running LoopC program holds, and what its rows compute: variables, blocks, and the built-ins on integers and
+//! texts. The meaning of each stands in the `specs/` of `loop_tree`. A `u8` in an `Err` is the number of the stuck state.
+#![tactic(auto)]
+
+mod blocks;
+mod integers;
+mod link;
+mod slot;
+mod table;
+mod texts;
+mod variables;
+
+pub use blocks::Blocks;
+pub use integers::{operation, power, wrap, xor};
+pub use link::Link;
+pub use texts::{char, code, compare, fit, index, join, left, over, right, sub, trim};
+pub use variables::{Links, Numbers, Words};

@@ -1,0 +1,297 @@
+//! Where blocks stand: a slot has the number of its block, and the cells while the block lives.
+ghost use Rattle.std.specs.Prelude.{◌≡◌, ◌++◌, pos, IfOk, IfErr, OnOk, OnErr, length, take, replicate};
+ghost use Rattle.loop_tree.specs.State.{Ints, Texts, cells_or_stuck};
+ghost use Rattle.loop_tree.specs.Values.{and_then, ints_of, texts_of, int_cell, text_cell, stored, cell_count, size_within, grown, zeros, texts_of_length};
+ghost use Rattle.loop_tree.specs.Machine.{store_int, store_text};
+ghost use Rattle.loop_values.specs.Slots.{changed_slot, is_living};
+ghost use Rattle.loop_values.specs.Held.{cells_in};
+
+use a95_base::Bytes;
+use std::alloc::{AllocError, Global};
+use std::marker::Model;
+
+/// A block has at most so many cells.
+pub const LARGEST: usize = 1 << 24;
+
+/// The cells of a block.
+#[derive(Drop)]
+pub enum Held {
+    Ints(Vec<i64>),
+    Texts(Vec<Bytes>),
+    /// The block was freed.
+    Nothing,
+}
+
+/// Contracts see the number, and the cells if there are any.
+#[derive(Drop)]
+pub struct Slot {
+    number: u64,
+    held: Held,
+}
+
+impl Model for Slot {
+    ghost use Rattle.loop_values.specs.Slots.{Kept};
+
+    ghost Value = { Kept };
+
+    ghost use Rattle.loop_values.specs.Held.{cells_in};
+
+    ghost view = { λ slot. record { number = slot.number; cells = cells_in slot.held } };
+}
+
+impl Slot {
+    pub fn new(number: u64, held: Held) -> Slot
+        ensures number { result.number ≡ number }
+        ensures cells { result.cells ≡ cells_in held }
+    {
+        Slot { number, held }
+    }
+
+    pub fn number(&self) -> u64
+        ensures { result ≡ self.now.number }
+    {
+        self.number
+    }
+
+    pub fn is_living(&self) -> bool
+        ensures { result ≡ is_living self.now }
+    {
+        !matches!(self.held, Held::Nothing)
+    }
+
+    pub fn int_cell(&self, i: i64) -> Result<i64, u8>
+        ensures { result ≡ and_then (and_then (cells_or_stuck self.now.cells) ints_of) (λ cells. int_cell cells i) }
+    {
+        match &self.held {
+            Held::Ints(cells) => read_int(cells, i),
+            _ => Err(2),
+        }
+    }
+
+    pub fn text_cell(&self, i: i64) -> Result<&[u8], u8>
+        ensures ok { IfOk result (λ text. and_then (and_then (cells_or_stuck self.now.cells) texts_of) (λ cells. text_cell cells i) ≡ Ok text.now) }
+        ensures err { IfErr result (λ why. and_then (and_then (cells_or_stuck self.now.cells) texts_of) (λ cells. text_cell cells i) ≡ Err why) }
+    {
+        match &self.held {
+            Held::Texts(cells) => read_text(cells, i),
+            _ => Err(2),
+        }
+    }
+
+    pub fn size(&self) -> Result<i64, u8>
+        ensures { result ≡ and_then (cells_or_stuck self.now.cells) (λ cells. Ok (pos (cell_count cells))) }
+    {
+        match &self.held {
+            Held::Ints(cells) => Ok(cells.len() as i64),
+            Held::Texts(cells) => Ok(cells.len() as i64),
+            Held::Nothing => Err(2),
+        }
+    }
+
+    pub fn store_int(&mut self, i: i64, value: i64) -> Result<(), u8>
+        ensures ok { OnOk result (changed_slot self.old (store_int i value) ≡ Ok self.new) }
+        ensures err { IfErr result (λ why. changed_slot self.old (store_int i value) ≡ Err why) }
+        ensures stays { OnErr result (self.new ≡ self.old) }
+    {
+        match &mut self.held {
+            Held::Ints(cells) => write_int(cells, i, value),
+            _ => Err(2),
+        }
+    }
+
+    pub fn store_text(&mut self, i: i64, value: Bytes) -> Result<(), u8>
+        ensures ok { OnOk result (changed_slot self.old (store_text i value) ≡ Ok self.new) }
+        ensures err { IfErr result (λ why. changed_slot self.old (store_text i value) ≡ Err why) }
+        ensures stays { OnErr result (self.new ≡ self.old) }
+    {
+        match &mut self.held {
+            Held::Texts(cells) => write_text(cells, i, value),
+            _ => Err(2),
+        }
+    }
+
+    /// So many more cells at the end.
+    pub fn grow(&mut self, alloc: Global, count: i64) -> Result<Result<(), u8>, AllocError>
+        ensures ok { IfOk result (λ done. OnOk done (changed_slot self.old (λ cells. grown cells count) ≡ Ok self.new)) }
+        ensures err { IfOk result (λ done. IfErr done (λ why. changed_slot self.old (λ cells. grown cells count) ≡ Err why)) }
+        ensures stays { IfOk result (λ done. OnErr done (self.new ≡ self.old)) }
+        ensures memory { OnErr result (self.new ≡ self.old) }
+    {
+        match &mut self.held {
+            Held::Ints(cells) => grow_ints(cells, count),
+            Held::Texts(cells) => grow_texts(alloc, cells, count),
+            Held::Nothing => Ok(Err(2)),
+        }
+    }
+
+    /// Gives the cells back.
+    pub fn free(&mut self)
+        ensures number { self.new.number ≡ self.old.number }
+        ensures cells { self.new.cells ≡ None }
+    {
+        self.held = Held::Nothing;
+    }
+}
+
+fn read_int(cells: &[i64], i: i64) -> Result<i64, u8>
+    ensures { result ≡ int_cell cells.now i }
+{
+    if i < 0 {
+        return Err(1);
+    }
+    match cells.get(i as usize) {
+        Some(value) => Ok(*value),
+        None => Err(1),
+    }
+}
+
+fn read_text(cells: &[Bytes], i: i64) -> Result<&[u8], u8>
+    ensures ok { IfOk result (λ text. text_cell cells.now i ≡ Ok text.now) }
+    ensures err { IfErr result (λ why. text_cell cells.now i ≡ Err why) }
+{
+    if i < 0 {
+        return Err(1);
+    }
+    match cells.get(i as usize) {
+        Some(value) => Ok(value.as_slice()),
+        None => Err(1),
+    }
+}
+
+fn write_int(cells: &mut [i64], i: i64, value: i64) -> Result<(), u8>
+    ensures ok { OnOk result (stored cells.old i value ≡ Ok cells.new) }
+    ensures err { IfErr result (λ why. stored cells.old i value ≡ Err why) }
+    ensures stays { OnErr result (cells.new ≡ cells.old) }
+{
+    if i < 0 {
+        return Err(1);
+    }
+    let place = i as usize;
+    if place >= cells.len() {
+        return Err(1);
+    }
+    cells[place] = value;
+    Ok(())
+}
+
+fn write_text(cells: &mut [Bytes], i: i64, value: Bytes) -> Result<(), u8>
+    ensures ok { OnOk result (stored cells.old i value ≡ Ok cells.new) }
+    ensures err { IfErr result (λ why. stored cells.old i value ≡ Err why) }
+    ensures stays { OnErr result (cells.new ≡ cells.old) }
+{
+    if i < 0 {
+        return Err(1);
+    }
+    let place = i as usize;
+    if place >= cells.len() {
+        return Err(1);
+    }
+    cells[place] = value;
+    Ok(())
+}
+
+// The number of cells, where so many may be added to those that there are.
+fn size_within(limit: usize, count: i64) -> Result<usize, u8>
+    ensures { result ≡ size_within limit count }
+{
+    if count < 0 || count as usize > limit {
+        return Err(5);
+    }
+    Ok(count as usize)
+}
+
+fn grow_ints(cells: &mut Vec<i64>, count: i64) -> Result<Result<(), u8>, AllocError>
+    ensures ok { IfOk result (λ done. OnOk done (grown (Ints cells.old.items) count ≡ Ok (Ints cells.new.items))) }
+    ensures err { IfOk result (λ done. IfErr done (λ why. grown (Ints cells.old.items) count ≡ Err why)) }
+    ensures stays { IfOk result (λ done. OnErr done (cells.new.items ≡ cells.old.items)) }
+    ensures memory { OnErr result (cells.new.items ≡ cells.old.items) }
+{
+    let length = cells.len();
+    match size_within(LARGEST.saturating_sub(length), count) {
+        Ok(more) => {
+            cells.resize(length + more, 0)?;
+            Ok(Ok(()))
+        }
+        Err(why) => Ok(Err(why)),
+    }
+}
+
+fn grow_texts(
+    alloc: Global,
+    cells: &mut Vec<Bytes>,
+    count: i64,
+) -> Result<Result<(), u8>, AllocError>
+    ensures ok { IfOk result (λ done. OnOk done (grown (Texts cells.old.items) count ≡ Ok (Texts cells.new.items))) }
+    ensures err { IfOk result (λ done. IfErr done (λ why. grown (Texts cells.old.items) count ≡ Err why)) }
+    ensures stays { IfOk result (λ done. OnErr done (cells.new.items ≡ cells.old.items)) }
+    ensures memory { OnErr result (cells.new.items ≡ cells.old.items) }
+{
+    let length = cells.len();
+    match size_within(LARGEST.saturating_sub(length), count) {
+        Ok(more) => {
+            if add_texts(alloc, cells, more, 0).is_err() {
+                cells.truncate(length);
+                return Err(AllocError);
+            }
+            Ok(Ok(()))
+        }
+        Err(why) => Ok(Err(why)),
+    }
+}
+
+// Adds so many texts of so many blanks.
+fn add_texts(
+    alloc: Global,
+    cells: &mut Vec<Bytes>,
+    count: usize,
+    size: usize,
+) -> Result<(), AllocError>
+    ensures ok { OnOk result (cells.new.items ≡ cells.old.items ++ replicate count (replicate size 32)) }
+    ensures front { take (length cells.old.items) cells.new.items ≡ cells.old.items }
+{
+    for _ in 0..count {
+        cells.push(blanks(alloc, size)?)?;
+    }
+    Ok(())
+}
+
+fn blanks(alloc: Global, size: usize) -> Result<Bytes, AllocError>
+    ensures { IfOk result (λ text. text ≡ replicate size 32) }
+{
+    let mut bytes = Vec::with_capacity(alloc, size)?;
+    bytes.resize(size, b' ')?;
+    Ok(Bytes::from_vec(bytes))
+}
+
+/// So many zeros, each of which takes eight bytes.
+pub fn zeros(alloc: Global, count: i64) -> Result<Result<Held, u8>, AllocError>
+    ensures ok { IfOk result (λ made. IfOk made (λ held. cells_or_stuck (cells_in held) ≡ zeros count)) }
+    ensures err { IfOk result (λ made. IfErr made (λ why. zeros count ≡ Err why)) }
+{
+    match size_within(LARGEST, count) {
+        Ok(length) => {
+            let mut cells = Vec::with_capacity(alloc, length)?;
+            cells.resize(length, 0)?;
+            Ok(Ok(Held::Ints(cells)))
+        }
+        Err(why) => Ok(Err(why)),
+    }
+}
+
+/// So many texts, of so many blanks each.
+pub fn texts_of_length(alloc: Global, count: i64, size: i64) -> Result<Result<Held, u8>, AllocError>
+    ensures ok { IfOk result (λ made. IfOk made (λ held. cells_or_stuck (cells_in held) ≡ texts_of_length count size)) }
+    ensures err { IfOk result (λ made. IfErr made (λ why. texts_of_length count size ≡ Err why)) }
+{
+    match size_within(LARGEST, count) {
+        Ok(length) => match size_within(255, size) {
+            Ok(size) => {
+                let mut cells = Vec::with_capacity(alloc, length)?;
+                add_texts(alloc, &mut cells, length, size)?;
+                Ok(Ok(Held::Texts(cells)))
+            }
+            Err(why) => Ok(Err(why)),
+        },
+        Err(why) => Ok(Err(why)),
+    }
+}

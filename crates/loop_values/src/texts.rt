@@ -1,0 +1,200 @@
+//! The built-ins on texts. Places are counted from 1.
+ghost use Rattle.std.specs.Prelude.{◌≡◌, ◌≤◌, [], ◌++◌, pos, length, IfOk};
+ghost use Rattle.loop_tree.specs.Characters.{compare_padded, first_place, fit, part_of, past_blanks, trim, adjust_left, adjust_right};
+ghost use Rattle.loop_tree.specs.Values.{code_of, char_of, sub, replaced, fitted};
+
+use a95_base::Bytes;
+use memchr::memmem;
+use std::alloc::{AllocError, Global};
+
+/// The first place of a part in a text, or 0.
+pub fn index(text: &[u8], part: &[u8]) -> i64
+    ensures { result ≡ pos (first_place text.now part.now) }
+{
+    match memmem::find(text, part) {
+        Some(at) => at as i64 + 1,
+        None => 0,
+    }
+}
+
+/// The byte of a text of one byte. Err(6): the text has another length.
+pub fn code(text: &[u8]) -> Result<i64, u8>
+    ensures { result ≡ code_of text.now }
+{
+    match text {
+        [byte] => Ok(i64::from(*byte)),
+        _ => Err(6),
+    }
+}
+
+/// The text of one byte. Err(7): the number is outside 0 to 255.
+pub fn char(alloc: Global, code: i64) -> Result<Result<Bytes, u8>, AllocError>
+    ensures { IfOk result (λ made. made ≡ char_of code) }
+{
+    match u8::try_from(code) {
+        Ok(byte) => Ok(Ok(Bytes::from_slice(alloc, &[byte])?)),
+        Err(_) => Ok(Err(7)),
+    }
+}
+
+/// The order of two texts, the shorter padded with blanks: -1, 0 or 1.
+pub fn compare(a: &[u8], b: &[u8]) -> i64
+    ensures { result ≡ compare_padded a.now b.now }
+{
+    let common = a.len().min(b.len());
+    for i in 0..common {
+        if a[i] != b[i] {
+            return if a[i] < b[i] { -1 } else { 1 };
+        }
+    }
+    if common < a.len() {
+        return against_blanks(&a[common..]);
+    }
+    blanks_against(&b[common..])
+}
+
+// The order of a text and blanks.
+fn against_blanks(text: &[u8]) -> i64
+    ensures { result ≡ compare_padded text.now [] }
+{
+    for byte in text {
+        if *byte != b' ' {
+            return if *byte < b' ' { -1 } else { 1 };
+        }
+    }
+    0
+}
+
+// The order of blanks and a text.
+fn blanks_against(text: &[u8]) -> i64
+    ensures { result ≡ compare_padded [] text.now }
+{
+    for byte in text {
+        if *byte != b' ' {
+            return if b' ' < *byte { -1 } else { 1 };
+        }
+    }
+    0
+}
+
+/// One text behind another.
+pub fn join(alloc: Global, front: &[u8], back: &[u8]) -> Result<Bytes, AllocError>
+    ensures { IfOk result (λ text. text ≡ front.now ++ back.now) }
+{
+    let mut bytes = Vec::with_capacity(alloc, front.len())?;
+    bytes.extend_from_slice(front)?;
+    bytes.extend_from_slice(back)?;
+    Ok(Bytes::from_vec(bytes))
+}
+
+/// The bytes from one place to another, none where the first is greater. Err(6): a place is outside the text.
+pub fn sub(alloc: Global, text: &[u8], from: i64, to: i64) -> Result<Result<Bytes, u8>, AllocError>
+    ensures { IfOk result (λ made. made ≡ sub text.now from to) }
+{
+    if to < from {
+        return Ok(Ok(Bytes::new(alloc)));
+    }
+    if from < 1 || to as usize > text.len() {
+        return Ok(Err(6));
+    }
+    Ok(Ok(part(alloc, text, from as usize, to as usize)?))
+}
+
+fn part(alloc: Global, text: &[u8], from: usize, to: usize) -> Result<Bytes, AllocError>
+    requires first { 1 ≤ from }
+    requires ordered { from ≤ to }
+    requires within { to ≤ length text.now }
+    ensures { IfOk result (λ made. made ≡ part_of text.now from to) }
+{
+    let front = &text[..to];
+    Bytes::from_slice(alloc, &front[from - 1..])
+}
+
+/// The text with the bytes from a place on replaced. Err(6): a place is outside the text.
+pub fn over(
+    alloc: Global,
+    text: &[u8],
+    from: i64,
+    new: &[u8],
+) -> Result<Result<Bytes, u8>, AllocError>
+    ensures { IfOk result (λ made. made ≡ replaced text.now from new.now) }
+{
+    if new.is_empty() {
+        return Ok(Ok(Bytes::from_slice(alloc, text)?));
+    }
+    if from < 1 || new.len() > text.len() || from as usize - 1 > text.len() - new.len() {
+        return Ok(Err(6));
+    }
+    let start = from as usize - 1;
+    let mut bytes = Vec::with_capacity(alloc, text.len())?;
+    bytes.extend_from_slice(&text[..start])?;
+    bytes.extend_from_slice(new)?;
+    bytes.extend_from_slice(&text[start + new.len()..])?;
+    Ok(Ok(Bytes::from_vec(bytes)))
+}
+
+/// The text cut to so many bytes, or padded with blanks. Err(6): the number is negative.
+pub fn fit(alloc: Global, text: &[u8], length: i64) -> Result<Result<Bytes, u8>, AllocError>
+    ensures { IfOk result (λ made. made ≡ fitted text.now length) }
+{
+    if length < 0 {
+        return Ok(Err(6));
+    }
+    Ok(Ok(fit_to(alloc, text, length as usize)?))
+}
+
+fn fit_to(alloc: Global, text: &[u8], length: usize) -> Result<Bytes, AllocError>
+    ensures { IfOk result (λ made. made ≡ fit length text.now) }
+{
+    let kept = length.min(text.len());
+    let mut bytes = Vec::with_capacity(alloc, length)?;
+    bytes.extend_from_slice(&text[..kept])?;
+    bytes.resize(length, b' ')?;
+    Ok(Bytes::from_vec(bytes))
+}
+
+/// The text without the blanks at its end.
+pub fn trim(alloc: Global, text: &[u8]) -> Result<Bytes, AllocError>
+    ensures { IfOk result (λ made. made ≡ trim text.now) }
+{
+    Bytes::from_slice(alloc, without_end_blanks(text))
+}
+
+/// The leading blanks moved to the end.
+pub fn left(alloc: Global, text: &[u8]) -> Result<Bytes, AllocError>
+    ensures { IfOk result (λ made. made ≡ adjust_left text.now) }
+{
+    fit_to(alloc, without_front_blanks(text), text.len())
+}
+
+/// The trailing blanks moved to the front.
+pub fn right(alloc: Global, text: &[u8]) -> Result<Bytes, AllocError>
+    ensures { IfOk result (λ made. made ≡ adjust_right text.now) }
+{
+    let kept = without_end_blanks(text);
+    let mut bytes = Vec::with_capacity(alloc, text.len())?;
+    bytes.resize(text.len() - kept.len(), b' ')?;
+    bytes.extend_from_slice(kept)?;
+    Ok(Bytes::from_vec(bytes))
+}
+
+fn without_end_blanks(text: &[u8]) -> &[u8]
+    ensures text { result.now ≡ trim text.now }
+    ensures within { length result.now ≤ length text.now }
+{
+    let mut length = text.len();
+    while length > 0 && text[length - 1] == b' ' {
+        length -= 1;
+    }
+    &text[..length]
+}
+
+fn without_front_blanks(text: &[u8]) -> &[u8]
+    ensures { result.now ≡ past_blanks text.now }
+{
+    let mut start = 0;
+    while start < text.len() && text[start] == b' ' {
+        start += 1;
+    }
+    &text[start..]
+}
