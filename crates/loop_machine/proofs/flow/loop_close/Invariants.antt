@@ -1,0 +1,15 @@
+use Rattle.std.proofs.Common.{◌≡◌, drop, length}
+use Rattle.std.specs.Prelude.{map}
+use Rattle.loop_tree.specs.Machine.{exits, first_exit, loop_end}
+use Rattle.loop_machine.specs.Shown.{lines_in, brace}
+use Rattle.loop_machine.proofs.flow.loop_close.Given as goal
+
+abbrev pub invariant-loop-held : goal.invariant-loop-held
+invariant-loop-held l = record {
+  same : loop_end (map (brace (lines_in l.routines l.routine)) l.held) (exits (drop l.closing (lines_in l.routines l.routine)))
+      ≡ loop_end (map (brace (lines_in l.routines l.routine)) l.fn.held) (exits (drop l.place (lines_in l.routines l.routine)));
+  closes : first_exit (exits (drop l.closing (lines_in l.routines l.routine))) ≡ drop l.closing (lines_in l.routines l.routine);
+}
+
+abbrev pub decreases-loop-held : goal.decreases-loop-held
+decreases-loop-held l = length l.held

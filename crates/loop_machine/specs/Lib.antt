@@ -1,0 +1,7 @@
+pub mod Exits
+pub mod Shown
+pub mod Moves
+pub mod Callees
+pub mod Ran
+pub mod Running
+pub mod Ends

@@ -1,0 +1,17 @@
+//! The machine that runs LoopC.
+#![tactic(auto)]
+
+mod calls;
+mod end;
+mod flow;
+mod machine;
+mod routine;
+mod rows;
+mod run;
+mod stack;
+mod state;
+mod step;
+mod values;
+
+pub use end::End;
+pub use machine::Machine;

@@ -1,0 +1,85 @@
+use crate::stack::Stack;
+use a95_base::FaultKind;
+use loop_tree::Atom;
+use loop_values::{Blocks, Links, Numbers, Words};
+use record_io::Record;
+use sqlite_items::Items;
+use std::alloc::Global;
+
+/// An open brace. `body` is the place of the first line of a loop's body.
+#[derive(Clone, Copy, Debug)]
+pub enum Held {
+    Choice,
+    Upward { k: u32, bound: Atom, body: usize },
+    Downward { k: u32, body: usize },
+    Forever { body: usize },
+}
+
+/// An active call: its function, the place of the line that comes next, the open braces, the variables of each letter,
+/// the line that f_at set, and the number of blocks that were made before it.
+#[derive(Drop)]
+pub struct Active {
+    pub routine: usize,
+    pub place: usize,
+    pub held: Stack<Held>,
+    pub ints: Numbers,
+    pub indices: Numbers,
+    pub texts: Words,
+    pub int_blocks: Links,
+    pub text_blocks: Links,
+    pub line: u32,
+    pub mark: u64,
+}
+
+/// A running program: the innermost call, its callers, the blocks, the pending record, and the input, of which so many
+/// bytes were taken.
+#[derive(Drop)]
+pub struct Core {
+    pub alloc: Global,
+    pub active: Active,
+    pub callers: Stack<Active>,
+    pub blocks: Blocks,
+    pub pending: Record,
+    pub input: Items<u8>,
+    pub taken: usize,
+    /// Of the fault, where one came.
+    pub fault: FaultKind,
+    /// The number of the stuck state, where one came.
+    pub why: u8,
+}
+
+/// What came of a line. It has no fields, so that it is passed in a register.
+#[derive(Clone, Copy, Debug)]
+pub enum Move {
+    /// The next line follows.
+    Quiet,
+    /// A turn began.
+    Turn,
+    /// The pending record is to be written.
+    Record,
+    /// A turn would begin and none is left, so nothing was done.
+    Waits,
+    Ended,
+    /// The kind is kept.
+    Fault,
+    /// The number is kept.
+    Stuck,
+    /// An allocation was refused.
+    Memory,
+}
+
+/// What steps in a row came to.
+#[derive(Clone, Copy, Debug)]
+pub enum Came {
+    /// A turn began.
+    Turn,
+    /// A turn would begin and none is left.
+    Waits,
+    Ended,
+    /// With the line that f_at set in the innermost call.
+    Fault(FaultKind, u32),
+    Stuck(u8),
+    /// The sink failed.
+    WriteFault,
+    Memory,
+}
