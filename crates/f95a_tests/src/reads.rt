@@ -1,4 +1,4 @@
-//! What `rank_one` reads, at the edges of its limits.
+//! What `rank_one` reads and refuses, at the edges of its limits too.
 use rank_one::{Action, Factor, Refusal, read};
 use std::alloc::Global;
 use std::test::Fail;
@@ -13,6 +13,54 @@ fn refused(alloc: Global, text: &[u8]) -> Result<Option<(u8, u32, u8)>, Fail> {
 }
 
 const NO_SOURCE: Option<(u8, u32, u8)> = Some((3, 1, 47));
+
+#[test]
+fn texts_are_read_or_refused(rt: HostRuntime) -> Result<(), Fail> {
+    let table = [
+        ("program p\ninteger :: a(3)\na = 2\nprint *, a\nend\n", None),
+        ("program p; integer :: a(3); a = 2; print *, a; end", None),
+        (
+            " ;;\n\tPROGRAM\tp\nINTEGER::a ( 007 ),B(7)\n\nA=a+2*b-3*4*a;Print*,b,A\nEnd ;\n",
+            None,
+        ),
+        ("program p\nend", None),
+        (
+            "program p\ninteger :: p(0), p1(16777216)\np = 2147483647\nend",
+            None,
+        ),
+        ("program p\nx = 1\nend\n", Some((4, 2, 19))),
+        (
+            "program p\ninteger :: a(1)\n\na = 1; a = b\nprint *, a, c\nend",
+            Some((4, 4, 19)),
+        ),
+        (
+            "program p\ninteger :: a(1), b(2)\nprint *, c\na = b\nend",
+            NO_SOURCE,
+        ),
+        ("", NO_SOURCE),
+        ("program p\n", NO_SOURCE),
+        ("programp\nend", NO_SOURCE),
+        ("program end\nend", NO_SOURCE),
+        ("program p\nend\nend", NO_SOURCE),
+        ("program p\r\nend\r\n", NO_SOURCE),
+        ("program p\0\nend", NO_SOURCE),
+        ("program p\n! é\nend", NO_SOURCE),
+        ("program p\na = 1\ninteger :: a(3)\nend", NO_SOURCE),
+        ("program p\ninteger : : a(3)\nend", NO_SOURCE),
+        ("program p\ninteger :: a(3), A(3)\nend", NO_SOURCE),
+        ("program p\ninteger :: a(16777217)\nend", NO_SOURCE),
+        ("program p\ninteger :: a(3)\na = 2147483648\nend", NO_SOURCE),
+        ("program p\ninteger :: a(3)\na = 1 +\nend", NO_SOURCE),
+        ("program p\ninteger :: a(3)\na = -1\nend", NO_SOURCE),
+        ("program p\ninteger :: a(3)\nprint *,\nend", NO_SOURCE),
+        ("program a234567890123456789012345678901\nend", None),
+        ("program a2345678901234567890123456789012\nend", NO_SOURCE),
+    ];
+    for (text, want) in table {
+        assert_eq!(rt; refused(rt.alloc(), text.as_bytes())?, want, "{text}");
+    }
+    Ok(())
+}
 
 #[test]
 fn long_lines_and_texts(rt: HostRuntime) -> Result<(), Fail> {
@@ -36,18 +84,20 @@ fn long_lines_and_texts(rt: HostRuntime) -> Result<(), Fail> {
 
 #[test]
 fn names_become_places(rt: HostRuntime) -> Result<(), Fail> {
-    let text = b"program p\ninteger :: a(3)\ninteger :: b(3)\nprint *, b, a\nb = 5 - A * b\nend";
+    let text =
+        b"program p\ninteger :: a(3)\ninteger :: b(4), c(4)\nprint *, b, a\nb = 5 - C * b\nend";
     let Ok(unit) = read(rt.alloc(), text) else {
         return Err(Fail::new("refused"));
     };
-    let ([first, second], [print, assign]) = (unit.arrays.as_slice(), unit.statements.as_slice())
+    let ([first, second, _], [print, assign]) = (unit.arrays.as_slice(), unit.statements.as_slice())
     else {
-        return Err(Fail::new("not two of each"));
+        return Err(Fail::new("arrays or statements are missing"));
     };
     assert_eq!(rt;
         (first.line, second.line, print.line, assign.line),
         (2, 3, 4, 5)
     );
+    assert_eq!(rt; (first.extent, second.extent), (3, 4));
     let Action::Print { arrays } = &print.action else {
         return Err(Fail::new("no print"));
     };
@@ -61,6 +111,8 @@ fn names_become_places(rt: HostRuntime) -> Result<(), Fail> {
         return Err(Fail::new("no addend"));
     };
     assert!(rt; addend.minus);
-    assert!(rt; matches!(&addend.term.first, Factor::Array(0)));
+    assert!(rt; matches!(&addend.term.first, Factor::Array(2)));
+    assert!(rt; value.first.rest.is_empty());
+    assert!(rt; matches!(addend.term.rest.as_slice(), [Factor::Array(1)]));
     Ok(())
 }
