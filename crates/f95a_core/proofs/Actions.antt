@@ -1,22 +1,17 @@
 -- What the lines of each action do is what the action means.
-use Rattle.std.proofs.Common.{◌≡◌, ◌≢◌, ◌⊎◌, inl, inr, ℕ, zero, suc, ◌+◌, ◌*◌, ◌<◌, ◌≤◌, ◌^◌, Bool, true, false, List, [], ◌∷◌, ◌++◌, Option, Some, None, refl, ap, ◌∙◌, sym, subst, arith, ℤ, pos, length, nat_le, take, append-nil, append_assoc}
-use Rattle.std.specs.Prelude.{get_or, set, map, replicate, fold}
-use Rattle.std.specs.List.{flat_map, sum_by}
-use Rattle.std.proofs.lemmas.List.{get_or-set_same, get_or-set_other, map-append, set-get_or, take_all}
+use Rattle.std.proofs.Common.{◌≡◌, ◌≢◌, ℕ, ◌+◌, ◌<◌, ◌≤◌, ◌^◌, true, List, [], ◌∷◌, ◌++◌, Some, None, refl, ap, ◌∙◌, sym, subst, arith, ℤ, pos, length, nat_le, take, append-nil, append_assoc}
+use Rattle.std.specs.Prelude.{set, map, replicate}
+use Rattle.std.specs.List.{flat_map}
+use Rattle.std.proofs.lemmas.List.{set-get_or, take_all}
 use Rattle.std.proofs.Math.ListN.{length-set, length-replicate}
 use Rattle.std.proofs.lemmas.Bool.Decides.{nat_tests}
 use Rattle.a95_base.specs.declared.scalar.Scalar.{Scalar}
 use Rattle.a95_base.specs.declared.scalar.Scalar.TheVariants as scalar
 use Rattle.a95_base.specs.Record.{record_text}
 use Rattle.a95_base.specs.Lists.{EachOf}
-use Rattle.rank_one.specs.declared.unit.Unit.{Unit}
 use Rattle.rank_one.specs.declared.unit.Array.{Array}
-use Rattle.rank_one.specs.declared.unit.Statement.{Statement}
-use Rattle.rank_one.specs.declared.unit.Action.{Action}
-use Rattle.rank_one.specs.declared.unit.Action.TheVariants.{Assign, Print}
 use Rattle.rank_one.specs.declared.unit.Sum.{Sum}
-use Rattle.rank_one.specs.Meaning as meaning
-use Rattle.rank_one.specs.Meaning.{array_at, sum_value, elements, after}
+use Rattle.rank_one.specs.Meaning.{array_at, sum_value, elements}
 use Rattle.loop_tree.specs.declared.atom.Atom.TheVariants as atom
 use Rattle.loop_tree.specs.declared.row.BlockRow.TheVariants as block
 use Rattle.loop_tree.specs.declared.row.ControlRow.TheVariants as control
@@ -28,16 +23,16 @@ use Rattle.loop_tree.specs.declared.tree.Stmt.{Stmt}
 use Rattle.loop_tree.specs.declared.tree.Stmt.TheVariants as stmt
 use Rattle.loop_tree.specs.declared.tree.Function.{Function}
 use Rattle.loop_tree.specs.Lines.{flats}
-use Rattle.loop_tree.specs.State.{Brace, Cells, Ints, Block, with_at, cells_numbered}
-use Rattle.loop_tree.specs.Values.{number_at, block_at, largest}
-use Rattle.f95a_core.specs.Lowered.{extent_of, assignment_code, printing_code, action_code, statements_code, declared_code, at_line, fill, move, show}
-use Rattle.f95a_core.proofs.Flat.{first_row, split}
-use Rattle.f95a_core.proofs.Reaching.{Good, silent, written, cheaper}
-use Rattle.f95a_core.proofs.Rows.{Vars, at, with_block, step_line, step_new, step_temp, step_write}
+use Rattle.loop_tree.specs.State.{Brace, Ints, with_at}
+use Rattle.loop_tree.specs.Values.{number_at, largest}
+use Rattle.f95a_core.specs.Lowered.{extent_of, assignment_code, printing_code, at_line, fill, move, free, show}
+use Rattle.f95a_core.proofs.Flat.{first_row}
+use Rattle.f95a_core.proofs.Reaching.{Good, written, cheaper}
+use Rattle.f95a_core.proofs.Rows.{Vars, at, step_line, step_temp, step_write}
 use Rattle.f95a_core.proofs.Cells.{with_at_same, with_at_other, found_new, found_old}
 use Rattle.f95a_core.proofs.Sums.{Holds}
-use Rattle.f95a_core.proofs.Elements.{SumFits, sum_shows, sum_int, IsInt}
-use Rattle.f95a_core.proofs.Loops.{row_before, HasTemporary, Filled, Filling, Moving, Showing, all_filled, fill_does, move_does, show_does}
+use Rattle.f95a_core.proofs.Elements.{SumFits, sum_shows, IsInt}
+use Rattle.f95a_core.proofs.Loops.{row_before, HasTemporary, all_filled, fill_does, move_does, free_does, show_does}
 
 -- ---- blocks that are made
 
@@ -88,13 +83,14 @@ module _ (functions : List Function) (final told : List ℕ) (decls : List Array
       let make = stmt.Row (row.Block (block.Temp (length arrays) (atom.Number (pos n)))) in
       let filling = fill line n (length arrays) sum in
       let moving = move line n (length arrays) t in
-      subst (λ (k : ℕ). Good functions final (cost + n + n) told (at v (flats (at_line line ∷ stmt.Row (row.Block (block.Temp k (atom.Number (pos (extent_of decls t))))) ∷ fill line (extent_of decls t) k sum ∷ move line (extent_of decls t) k t ∷ more) ++ rest) braces)) counted
-      (subst (λ (e : ℕ). Good functions final (cost + n + n) told (at v (flats (at_line line ∷ stmt.Row (row.Block (block.Temp (length arrays) (atom.Number (pos e)))) ∷ fill line e (length arrays) sum ∷ move line e (length arrays) t ∷ more) ++ rest) braces)) (sym extent)
-      (row_before functions final told (cost + n + n) v u (row.Control (control.At line)) (make ∷ filling ∷ moving ∷ more) rest braces
-      (step_line functions v (flats (make ∷ filling ∷ moving ∷ more) ++ rest) braces line)
-      (row_before functions final told (cost + n + n) u x (row.Block (block.Temp (length arrays) (atom.Number (pos n)))) (filling ∷ moving ∷ more) rest braces
-      (step_temp functions u (flats (filling ∷ moving ∷ more) ++ rest) braces (length arrays) n (small_enough n small))
-      (fill_does functions final told arrays line n v.made sum fits small (cost + n) (moving ∷ more) rest braces x
+      let after = free (length arrays) ∷ more in
+      subst (λ (k : ℕ). Good functions final (cost + n + n) told (at v (flats (at_line line ∷ stmt.Row (row.Block (block.Temp k (atom.Number (pos (extent_of decls t))))) ∷ fill line (extent_of decls t) k sum ∷ move line (extent_of decls t) k t ∷ free k ∷ more) ++ rest) braces)) counted
+      (subst (λ (e : ℕ). Good functions final (cost + n + n) told (at v (flats (at_line line ∷ stmt.Row (row.Block (block.Temp (length arrays) (atom.Number (pos e)))) ∷ fill line e (length arrays) sum ∷ move line e (length arrays) t ∷ free (length arrays) ∷ more) ++ rest) braces)) (sym extent)
+      (row_before functions final told (cost + n + n) v u (row.Control (control.At line)) (make ∷ filling ∷ moving ∷ after) rest braces
+      (step_line functions v (flats (make ∷ filling ∷ moving ∷ after) ++ rest) braces line)
+      (row_before functions final told (cost + n + n) u x (row.Block (block.Temp (length arrays) (atom.Number (pos n)))) (filling ∷ moving ∷ after) rest braces
+      (step_temp functions u (flats (filling ∷ moving ∷ after) ++ rest) braces (length arrays) n (small_enough n small))
+      (fill_does functions final told arrays line n v.made sum fits small (cost + n) (moving ∷ after) rest braces x
       (record {
         cells = replicate n (pos 0);
         holds = holds_more arrays u n holds;
@@ -108,7 +104,7 @@ module _ (functions : List Function) (final told : List ℕ) (decls : List Array
       })
       (λ w inv.
       let full = all_filled whole n inv.cells (sum_shows arrays n sum fits).size inv.filled in
-      move_does functions final told arrays whole line n v.made t (sum_shows arrays n sum fits).size here small cost more rest braces w
+      move_does functions final told arrays whole line n v.made t (sum_shows arrays n sum fits).size here small cost after rest braces w
       (record {
         cells = array_at arrays t;
         holds = subst (λ (all : List (List ℤ)). Holds all w.blocks w.references w.made) (sym (set-get_or arrays t [])) inv.holds;
@@ -118,7 +114,10 @@ module _ (functions : List Function) (final told : List ℕ) (decls : List Array
       })
       (λ y moved.
       let all = all_filled whole n moved.cells (sum_shows arrays n sum fits).size moved.filled in
-      go y (subst (λ (c : List ℤ). Holds (set arrays t c) y.blocks y.references y.made) all moved.holds) moved.clean))))))
+      let far : length (set arrays t whole) ≤ v.made = omega (arith, length-set arrays t whole, holds.fewer) in
+      free_does functions final told (set arrays t whole) (length arrays) v.made whole far cost more rest braces y moved.temporary.named moved.temporary.there
+      (subst (λ (c : List ℤ). Holds (set arrays t c) y.blocks y.references y.made) all moved.holds)
+      (λ z kept same. go z kept (same ∙ moved.clean))))))))
 
   -- ---- output
 

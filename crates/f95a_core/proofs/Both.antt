@@ -1,5 +1,5 @@
 -- The program of a unit follows it, in both directions.
-use Rattle.std.proofs.Common.{◌≡◌, ◌⊎◌, inl, inr, ℕ, zero, suc, ◌+◌, ◌*◌, ◌<◌, ◌≤◌, ◌^◌, Bool, true, false, ◌&&◌, List, [], ◌∷◌, ◌++◌, refl, ap, ◌∙◌, sym, subst, arith, ℤ, pos, length, nat_le, nat_lt, append-nil}
+use Rattle.std.proofs.Common.{◌≡◌, inl, inr, ℕ, ◌+◌, ◌*◌, ◌≤◌, ◌^◌, true, List, [], ◌∷◌, ◌++◌, ap, ◌∙◌, sym, arith, length, nat_le, append-nil}
 use Rattle.std.specs.List.{list_all, sum_by}
 use Rattle.std.proofs.lemmas.List.Sums.{sum_by-cons}
 use Rattle.std.proofs.Math.Nat.{mul-le-mul_left}
@@ -9,20 +9,19 @@ use Rattle.rank_one.specs.declared.unit.Statement.{Statement}
 use Rattle.rank_one.specs.declared.unit.Action.{Action}
 use Rattle.rank_one.specs.declared.unit.Action.TheVariants.{Assign, Print}
 use Rattle.rank_one.specs.Meaning.{output}
-use Rattle.rank_one.specs.Typed.{IsTyped, size_of, size_of_action, size_of_sum, is_typed_action}
+use Rattle.rank_one.specs.Typed.{IsTyped, size_of, size_of_action}
 use Rattle.loop_tree.specs.declared.tree.Function.{Function}
 use Rattle.loop_tree.specs.State as machine
 use Rattle.loop_tree.specs.State.{End, Next, Goes, Ends}
 use Rattle.loop_tree.specs.Machine.{step}
-use Rattle.loop_tree.specs.Run.{Trail, trail, Leads, begins_turn, Outcome, Finished, Going, FinishesAt, GoesOnAt, Runs, Mach, start}
+use Rattle.loop_tree.specs.Run.{Trail, trail, Leads, Outcome, Finished, Going, FinishesAt, GoesOnAt, Runs, start}
 use Rattle.loop_tree.specs.RunLaws.{IsFront}
 use Rattle.loop_tree.proofs.Runs.{linear, last, grows}
-use Rattle.f95a_core.specs.Lowered.{extent_of, program_of}
+use Rattle.f95a_core.specs.Lowered.{program_of}
 use Rattle.f95a_core.specs.Follows as follows
 use Rattle.f95a_core.specs.Follows.{Follows, SourceDid, turn_bound}
-use Rattle.f95a_core.proofs.Reaching.{Reaches, Good}
 use Rattle.f95a_core.proofs.Actions.{shown_cost}
-use Rattle.f95a_core.proofs.Statements.{both, small_extent, action_cost, statements_cost}
+use Rattle.f95a_core.proofs.Statements.{small_extent, action_cost, statements_cost}
 use Rattle.f95a_core.proofs.Whole.{unit_goes}
 
 -- ---- any outcome of the program is that of the source

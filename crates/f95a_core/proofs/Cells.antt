@@ -1,8 +1,8 @@
 -- Variables by their numbers, and blocks by theirs.
-use Rattle.std.proofs.Common.{◌≡◌, ◌≢◌, ℕ, zero, suc, ◌+◌, ◌<◌, ◌≤◌, ◌==◌, Bool, true, false, List, [], ◌∷◌, ◌++◌, Option, Some, None, Result, Ok, Err, refl, ap, ◌∙◌, sym, subst, arith, ℤ, pos, length, eq-eqb, nat_eq}
-use Rattle.std.specs.Prelude.{get_or, set, if◌then◌else◌}
+use Rattle.std.proofs.Common.{◌≡◌, ◌≢◌, ℕ, zero, suc, ◌==◌, Bool, true, false, List, [], ◌∷◌, Option, Some, refl, ap, ◌∙◌, sym, arith, eq-eqb}
+use Rattle.std.specs.Prelude.{get_or, if◌then◌else◌}
 use Rattle.std.proofs.lemmas.Bool.Decides.{nat_tests}
-use Rattle.loop_tree.specs.State.{Cells, Ints, Block, with_at, cells_numbered, with_cells}
+use Rattle.loop_tree.specs.State.{Cells, Block, with_at, cells_numbered, with_cells, without}
 
 pub with_at_same : {A : Type 0} (d : A) (xs : List A) (n : ℕ) (v : A) → get_or (with_at d xs n v) n d ≡ v
 unfolding with_at
@@ -54,4 +54,16 @@ changed_other (b ∷ bs) n k c h = by (changed_other bs n k c h) (b.number == n)
         let new = apart n k h in
         let old : (b.number == k) ≡ false = apart b.number k (λ x. h (sym is ∙ x)) in
         rw (e, new, old) more
+    by more false e = rw e (ap (λ (o : Option Cells). if b.number == k then Some b.cells else o) more)
+
+-- the others, where a block was freed
+pub without_other : (bs : List Block) (n k : ℕ) → n ≢ k → cells_numbered (without bs n) k ≡ cells_numbered bs k
+without_other [] n k h = refl
+without_other (b ∷ bs) n k h = by (without_other bs n k h) (b.number == n) refl
+  where
+    by : cells_numbered (without bs n) k ≡ cells_numbered bs k → (t : Bool) → (b.number == n) ≡ t → cells_numbered (without (b ∷ bs) n) k ≡ cells_numbered (b ∷ bs) k
+    by more true e =
+        let is : b.number ≡ n = grind (arith, nat_tests) in
+        let old : (b.number == k) ≡ false = apart b.number k (λ x. h (sym is ∙ x)) in
+        rw (e, old) more
     by more false e = rw e (ap (λ (o : Option Cells). if b.number == k then Some b.cells else o) more)

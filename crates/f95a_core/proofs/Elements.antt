@@ -1,12 +1,13 @@
 -- The elements of a right side's whole value are its elements at each place.
-use Rattle.std.proofs.Common.{◌≡◌, ℕ, zero, suc, ◌+◌, ◌<◌, ◌≤◌, Bool, true, false, List, [], ◌∷◌, ◌++◌, refl, ap, ◌∙◌, sym, subst, arith, ℤ, pos, length, le_of_suc-le-suc, not-suc-le-zero}
-use Rattle.std.specs.Prelude.{get_or, replicate, map, fold}
+use Rattle.std.proofs.Common.{◌≡◌, ℕ, zero, suc, ◌<◌, Bool, true, false, List, [], ◌∷◌, refl, ap, ◌∙◌, sym, subst, arith, ℤ, pos, length, le_of_suc-le-suc, not-suc-le-zero}
+use Rattle.std.specs.Prelude.{replicate, map, fold, if◌then◌else◌}
 use Rattle.std.specs.List.{zip}
 use Rattle.std.proofs.Math.ListN.{get_or-replicate, length-replicate}
 use Rattle.std.proofs.lemmas.List.{get_or-map, length-map}
 use Rattle.std.specs.Prelude.{◌+ℤ◌, ◌-ℤ◌, ◌*ℤ◌}
 use Rattle.a95_base.specs.Integer.{wrapped, product_of}
-use Rattle.a95_base.proofs.Wrapping.{wrapped-wrapped, wrapped_small}
+use Rattle.std.specs.Int.{int_wrap, w64}
+use Rattle.a95_base.proofs.Wrapping.{wrapped-wrapped, wrapped-int_wrap, wrapped_small}
 use Rattle.a95_base.specs.Lists.{EachOf}
 use Rattle.rank_one.specs.declared.unit.Sum.{Sum}
 use Rattle.rank_one.specs.declared.unit.Addend.{Addend}
@@ -15,7 +16,9 @@ use Rattle.rank_one.specs.declared.unit.Factor.{Factor}
 use Rattle.rank_one.specs.declared.unit.Factor.TheVariants as factor
 use Rattle.rank_one.specs.Meaning.{Value, Number, Whole, combined, array_at, factor_value, term_value, sum_value, added, elements}
 use Rattle.loop_tree.specs.Values.{number_at}
-use Rattle.f95a_core.proofs.Sums.{factor_at, term_from, term_at, sum_from, sum_at, FactorHas, TermHas, SumHas}
+use Rattle.f95a_core.specs.Lowered.{none_follow}
+use Rattle.f95a_core.proofs.Wide.{wrapped-add, wrapped-subtract, wrapped-multiply}
+use Rattle.f95a_core.proofs.Sums.{factor_at, term_from, term_at, sum_from, sum_at, wide_term_from, wide_term_at, either_way, wide_sum_from, stored_at, FactorHas, TermHas, SumHas}
 
 -- a value of n elements, the one at i being f i
 pub record Shows (n : ℕ) (value : Value) (f : ℕ → ℤ) : Type 0 where
@@ -124,11 +127,7 @@ added_int : (minus : Bool) (x y : ℤ) → IsInt (added minus x y)
 added_int true x y = int_wrapped (x -ℤ y)
 added_int false x y = int_wrapped (x +ℤ y)
 
-module _ (arrays : List (List ℤ)) (n i : ℕ) (each : (p : ℕ) → IsInt (number_at (array_at arrays p) i)) where
-  factor_int : (f : Factor) → FactorFits arrays n f → IsInt (factor_at arrays i f)
-  factor_int (factor.Number k) fits = record { kept = wrapped_small k fits }
-  factor_int (factor.Array p) fits = each p
-
+module _ (arrays : List (List ℤ)) (i : ℕ) where
   term_int : (x : ℤ) → IsInt x → (fs : List Factor) → IsInt (term_from arrays i x fs)
   term_int x h [] = h
   term_int x h (f ∷ fs) = term_int (product_of x (factor_at arrays i f)) (int_wrapped (x *ℤ factor_at arrays i f)) fs
@@ -137,5 +136,52 @@ module _ (arrays : List (List ℤ)) (n i : ℕ) (each : (p : ℕ) → IsInt (num
   addends_int x h [] = h
   addends_int x h (a ∷ more) = addends_int (added a.minus x (term_at arrays i a.term)) (added_int a.minus x (term_at arrays i a.term)) more
 
+  -- ---- operations that wrap at 64 bits leave the same in 32 bits
+
+  term_alike : (x y : ℤ) → wrapped x ≡ wrapped y → (fs : List Factor) → wrapped (wide_term_from arrays i x fs) ≡ wrapped (term_from arrays i y fs)
+  term_alike x y e [] = e
+  term_alike x y e (f ∷ fs) =
+      let z = factor_at arrays i f in
+      term_alike (int_wrap w64 (x *ℤ z)) (product_of y z) (wrapped-int_wrap (x *ℤ z) ∙ wrapped-multiply x z y z e refl ∙ sym (wrapped-wrapped (y *ℤ z))) fs
+
+  added_alike : (minus : Bool) (a b x y : ℤ) → wrapped a ≡ wrapped x → wrapped b ≡ wrapped y → wrapped (int_wrap w64 (either_way minus a b)) ≡ wrapped (added minus x y)
+  added_alike true a b x y e f = wrapped-int_wrap (a -ℤ b) ∙ wrapped-subtract a b x y e f ∙ sym (wrapped-wrapped (x -ℤ y))
+  added_alike false a b x y e f = wrapped-int_wrap (a +ℤ b) ∙ wrapped-add a b x y e f ∙ sym (wrapped-wrapped (x +ℤ y))
+
+  addends_alike : (x y : ℤ) → wrapped x ≡ wrapped y → (more : List Addend) → wrapped (wide_sum_from arrays i x more) ≡ wrapped (sum_from arrays i y more)
+  addends_alike x y e [] = e
+  addends_alike x y e (a ∷ more) =
+      let u = wide_term_at arrays i a.term in
+      let v = term_at arrays i a.term in
+      addends_alike (int_wrap w64 (either_way a.minus x u)) (added a.minus y v)
+      (added_alike a.minus x u y v e (term_alike (factor_at arrays i a.term.first) (factor_at arrays i a.term.first) refl a.term.rest)) more
+
+  -- what is stored is the element
+  pub stored_is : (s : Sum) → stored_at arrays i s ≡ sum_at arrays i s
+  stored_is s = by s.first.first s.first.rest s.rest
+    where
+      added_up : (f : Factor) (fs : List Factor) (a : Addend) (more : List Addend)
+          → wrapped (wide_sum_from arrays i (wide_term_from arrays i (factor_at arrays i f) fs) (a ∷ more)) ≡ sum_from arrays i (term_from arrays i (factor_at arrays i f) fs) (a ∷ more)
+      added_up f fs a more =
+          let x = term_from arrays i (factor_at arrays i f) fs in
+          addends_alike (wide_term_from arrays i (factor_at arrays i f) fs) x (term_alike (factor_at arrays i f) (factor_at arrays i f) refl fs) (a ∷ more)
+          ∙ (addends_int (added a.minus x (term_at arrays i a.term)) (added_int a.minus x (term_at arrays i a.term)) more).kept
+
+      by : (f : Factor) (fs : List Factor) (more : List Addend)
+          → (if none_follow fs more then wide_sum_from arrays i (wide_term_from arrays i (factor_at arrays i f) fs) more else wrapped (wide_sum_from arrays i (wide_term_from arrays i (factor_at arrays i f) fs) more))
+          ≡ sum_from arrays i (term_from arrays i (factor_at arrays i f) fs) more
+      by f [] [] = refl
+      by f (g ∷ fs) [] =
+          let x = factor_at arrays i f in
+          let z = factor_at arrays i g in
+          term_alike x x refl (g ∷ fs) ∙ (term_int (product_of x z) (int_wrapped (x *ℤ z)) fs).kept
+      by f [] (a ∷ more) = added_up f [] a more
+      by f (g ∷ fs) (a ∷ more) = added_up f (g ∷ fs) a more
+
+module _ (arrays : List (List ℤ)) (n i : ℕ) (each : (p : ℕ) → IsInt (number_at (array_at arrays p) i)) where
+  factor_int : (f : Factor) → FactorFits arrays n f → IsInt (factor_at arrays i f)
+  factor_int (factor.Number k) fits = record { kept = wrapped_small k fits }
+  factor_int (factor.Array p) fits = each p
+
   pub sum_int : (s : Sum) → SumFits arrays n s → IsInt (sum_at arrays i s)
-  sum_int s fits = addends_int (term_at arrays i s.first) (term_int (factor_at arrays i s.first.first) (factor_int s.first.first fits.first.first) s.first.rest) s.rest
+  sum_int s fits = addends_int arrays i (term_at arrays i s.first) (term_int arrays i (factor_at arrays i s.first.first) (factor_int s.first.first fits.first.first) s.first.rest) s.rest

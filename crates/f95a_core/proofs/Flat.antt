@@ -7,7 +7,7 @@ use Rattle.loop_tree.specs.declared.tree.CodeLine.TheVariants as code
 use Rattle.loop_tree.specs.declared.tree.Stmt.{Stmt, roll-Stmt}
 use Rattle.loop_tree.specs.declared.tree.Stmt.TheVariants as stmt
 use Rattle.loop_tree.specs.declared.tree.Stmt.TheOpen as layer
-use Rattle.loop_tree.specs.declared.tree.Stmt.TheFolds.{fold-Stmt, fold-roll-Stmt}
+use Rattle.loop_tree.specs.declared.tree.Stmt.TheFolds.{fold-roll-Stmt}
 use Rattle.loop_tree.specs.Lines.{flat, flats, flat_at}
 
 pub flat_row : (r : Row) → flat (stmt.Row r) ≡ code.Row r ∷ []

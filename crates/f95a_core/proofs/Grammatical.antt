@@ -1,8 +1,7 @@
 -- The program of a unit is one of the grammar.
-use Rattle.std.proofs.Common.{◌≡◌, ℕ, zero, suc, ◌+◌, ◌<◌, ◌≤◌, ◌^◌, Bool, true, false, ◌&&◌, ◌||◌, List, [], ◌∷◌, ◌++◌, refl, ap, ◌∙◌, sym, subst, arith, ℤ, pos, length, nat_le, nat_lt, max}
-use Rattle.std.specs.Prelude.{map, FitsSigned}
+use Rattle.std.proofs.Common.{◌≡◌, ℕ, suc, ◌+◌, ◌<◌, ◌≤◌, ◌^◌, Bool, true, false, ◌||◌, List, [], ◌∷◌, ◌++◌, refl, ap, ◌∙◌, sym, subst, arith, pos, length, nat_le, nat_lt}
+use Rattle.std.specs.Prelude.{map, if◌then◌else◌}
 use Rattle.std.specs.List.{list_all, flat_map, AllByRecursion}
-use Rattle.std.proofs.lemmas.List.{map-append}
 use Rattle.std.proofs.lemmas.Bool.{leb-true}
 use Rattle.rank_one.specs.declared.unit.Unit.{Unit}
 use Rattle.rank_one.specs.declared.unit.Array.{Array}
@@ -17,18 +16,18 @@ use Rattle.rank_one.specs.declared.unit.Factor.TheVariants as factor
 use Rattle.rank_one.specs.Typed.{IsTyped, factors_of, factors_of_term, has_extent, is_typed_factor, extent_at, is_typed_action}
 use Rattle.loop_tree.specs.declared.atom.Atom.{Atom}
 use Rattle.loop_tree.specs.declared.atom.Atom.TheVariants as atom
+use Rattle.loop_tree.specs.declared.row.IntValue.TheVariants as value
 use Rattle.loop_tree.specs.declared.row.Row.{Row}
-use Rattle.loop_tree.specs.declared.row.Row.TheVariants as row
 use Rattle.loop_tree.specs.declared.tree.CodeLine.{CodeLine}
 use Rattle.loop_tree.specs.declared.tree.CodeLine.TheVariants as code
 use Rattle.loop_tree.specs.declared.tree.Stmt.{Stmt, roll-Stmt}
 use Rattle.loop_tree.specs.declared.tree.Stmt.TheVariants as stmt
 use Rattle.loop_tree.specs.declared.tree.Stmt.TheOpen as layer
-use Rattle.loop_tree.specs.declared.tree.Stmt.TheFolds.{fold-Stmt, fold-roll-Stmt}
+use Rattle.loop_tree.specs.declared.tree.Stmt.TheFolds.{fold-roll-Stmt}
 use Rattle.loop_tree.specs.Lines.{flat, flats}
-use Rattle.loop_tree.specs.Program.{FitsAtom, FitsRow, FitsLine, leaves_row, leaves, leaves_at, some_of, some_leaves, depth, depth_at, depths, greatest, IsFunction, IsProgram}
-use Rattle.f95a_core.specs.Lowered.{load, set_row, times, term_code, plus, sum_code, at_line, fill, move, show, extent_of, assignment_code, printing_code, action_code, statements_code, declared_code, unit_code, program_of}
-use Rattle.f95a_core.proofs.Flat.{flat_row, flat_up, flats-append}
+use Rattle.loop_tree.specs.Program.{FitsAtom, FitsRow, FitsLine, leaves_row, leaves, leaves_at, some_leaves, depth, depth_at, depths, IsProgram}
+use Rattle.f95a_core.specs.Lowered.{set_row, load, factor_atom, times, product_code, product_atom, term_code, term_atom, plus, addends_code, addends_atom, sum_code, sum_atom, is_factor, value_code, value_atom, at_line, show, extent_of, assignment_code, action_code, statements_code, declared_code, program_of}
+use Rattle.f95a_core.proofs.Flat.{flat_row, flat_up}
 use Rattle.f95a_core.proofs.Statements.{both, all_front, small_extent, extent_is, extent_there}
 
 -- ---- what each statement keeps, and so what a list of them does
@@ -105,35 +104,71 @@ module _ (decls : List Array) (count : length decls < 2 ^ 32) (n : ℕ) where
   place_small : (m p : ℕ) → has_extent decls m p ≡ true → p < 2 ^ 32
   place_small m p h = let there = (extent_there decls m p h).0 in omega arith
 
-  load_fits : (f : Factor) → is_typed_factor decls n f ≡ true → (k : ℕ) → k < 2 ^ 32 → FitsRow (row.Int k (load f))
-  load_fits (factor.Number z) h k small = let most = leb-true z 2147483647 h in (small, omega arith)
-  load_fits (factor.Array p) h k small = (small, (place_small n p h, omega arith))
+  atom_fits : (m : ℕ) → m < 2 ^ 32 → (f : Factor) → is_typed_factor decls n f ≡ true → FitsAtom (factor_atom m f)
+  atom_fits m small (factor.Number z) h = let most = leb-true z 2147483647 h in omega arith
+  atom_fits m small (factor.Array p) h = small
 
-  fine_times : (fs : List Factor) → list_all (is_typed_factor decls n) fs ≡ true → Fine 0 (flat_map times fs)
-  fine_times [] h = fine_none 0
-  fine_times (f ∷ fs) h =
+  fine_load : (m : ℕ) → m < 2 ^ 32 → (f : Factor) → is_typed_factor decls n f ≡ true → Fine 0 (load m f)
+  fine_load m small (factor.Number z) h = fine_none 0
+  fine_load m small (factor.Array p) h = fine_row 0 _ _ (small, (place_small n p h, omega arith)) refl (fine_none 0)
+
+  fine_product : (m : ℕ) → m < 2 ^ 32 → (left : Atom) → FitsAtom left → (fs : List Factor) → list_all (is_typed_factor decls n) fs ≡ true → Fine 0 (product_code m left fs)
+  fine_product m small left fits [] h = fine_none 0
+  fine_product m small left fits (f ∷ fs) h =
       let parts = both (is_typed_factor decls n f) (list_all (is_typed_factor decls n) fs) h in
-      fine_both 0 (times f) (flat_map times fs)
-      (fine_row 0 _ _ (load_fits f parts.0 2 (omega arith)) refl (fine_row 0 _ _ (omega arith, (omega arith, omega arith)) refl (fine_row 0 _ _ (omega arith, omega arith) refl (fine_none 0))))
-      (fine_times fs parts.1)
+      fine_both 0 (times m left f) (product_code m (atom.Int m) fs)
+      (fine_both 0 (load 2 f) _ (fine_load 2 (omega arith) f parts.0) (fine_row 0 _ _ (small, (fits, atom_fits 2 (omega arith) f parts.0)) refl (fine_none 0)))
+      (fine_product m small (atom.Int m) small fs parts.1)
 
-  fine_term : (t : Term) → list_all (is_typed_factor decls n) (factors_of_term t) ≡ true → Fine 0 (term_code t)
-  fine_term t h =
+  product_fits : (m : ℕ) → m < 2 ^ 32 → (left : Atom) → FitsAtom left → (fs : List Factor) → FitsAtom (product_atom m left fs)
+  product_fits m small left fits [] = fits
+  product_fits m small left fits (f ∷ fs) = product_fits m small (atom.Int m) small fs
+
+  fine_term : (m : ℕ) → m < 2 ^ 32 → (t : Term) → list_all (is_typed_factor decls n) (factors_of_term t) ≡ true → Fine 0 (term_code m t)
+  fine_term m small t h =
       let parts = both (is_typed_factor decls n t.first) (list_all (is_typed_factor decls n) t.rest) h in
-      fine_row 0 _ _ (load_fits t.first parts.0 1 (omega arith)) refl (fine_times t.rest parts.1)
+      fine_both 0 (load m t.first) _ (fine_load m small t.first parts.0) (fine_product m small (factor_atom m t.first) (atom_fits m small t.first parts.0) t.rest parts.1)
 
-  fine_plus : (more : List Addend) → list_all (is_typed_factor decls n) (flat_map (λ (a : Addend). factors_of_term a.term) more) ≡ true → Fine 0 (flat_map plus more)
-  fine_plus [] h = fine_none 0
-  fine_plus (a ∷ more) h =
+  term_fits : (m : ℕ) → m < 2 ^ 32 → (t : Term) → list_all (is_typed_factor decls n) (factors_of_term t) ≡ true → FitsAtom (term_atom m t)
+  term_fits m small t h =
+      let parts = both (is_typed_factor decls n t.first) (list_all (is_typed_factor decls n) t.rest) h in
+      product_fits m small (factor_atom m t.first) (atom_fits m small t.first parts.0) t.rest
+
+  fine_addends : (left : Atom) → FitsAtom left → (more : List Addend) → list_all (is_typed_factor decls n) (flat_map (λ (a : Addend). factors_of_term a.term) more) ≡ true → Fine 0 (addends_code left more)
+  fine_addends left fits [] h = fine_none 0
+  fine_addends left fits (a ∷ more) h =
       let parts = all_front (is_typed_factor decls n) (factors_of_term a.term) (flat_map (λ (a : Addend). factors_of_term a.term) more) h in
-      fine_both 0 (plus a) (flat_map plus more)
-      (fine_both 0 (term_code a.term) _ (fine_term a.term parts.0) (fine_row 0 _ _ (omega arith, (omega arith, omega arith)) refl (fine_row 0 _ _ (omega arith, omega arith) refl (fine_none 0))))
-      (fine_plus more parts.1)
+      fine_both 0 (plus left a) (addends_code (atom.Int 0) more)
+      (fine_both 0 (term_code 1 a.term) _ (fine_term 1 (omega arith) a.term parts.0) (fine_row 0 _ _ (omega arith, (fits, term_fits 1 (omega arith) a.term parts.0)) refl (fine_none 0)))
+      (fine_addends (atom.Int 0) (omega arith) more parts.1)
 
-  fine_sum : (s : Sum) → list_all (is_typed_factor decls n) (factors_of s) ≡ true → Fine 0 (sum_code s)
-  fine_sum s h =
-      let parts = all_front (is_typed_factor decls n) (factors_of_term s.first) (flat_map (λ (a : Addend). factors_of_term a.term) s.rest) h in
-      fine_both 0 (term_code s.first) _ (fine_term s.first parts.0) (fine_row 0 _ _ (omega arith, omega arith) refl (fine_plus s.rest parts.1))
+  addends_fit : (left : Atom) → FitsAtom left → (more : List Addend) → FitsAtom (addends_atom left more)
+  addends_fit left fits [] = fits
+  addends_fit left fits (a ∷ more) = addends_fit (atom.Int 0) (omega arith) more
+
+  module _ (s : Sum) (h : list_all (is_typed_factor decls n) (factors_of s) ≡ true) where
+    abbrev parts : (list_all (is_typed_factor decls n) (factors_of_term s.first) ≡ true) × (list_all (is_typed_factor decls n) (flat_map (λ (a : Addend). factors_of_term a.term) s.rest) ≡ true)
+    parts = all_front (is_typed_factor decls n) (factors_of_term s.first) (flat_map (λ (a : Addend). factors_of_term a.term) s.rest) h
+
+    sum_fits : FitsAtom (sum_atom s)
+    sum_fits = addends_fit (term_atom 0 s.first) (term_fits 0 (omega arith) s.first parts.0) s.rest
+
+    fine_value : Fine 0 (value_code s)
+    fine_value =
+        fine_both 0 (sum_code s) _
+        (fine_both 0 (term_code 0 s.first) _ (fine_term 0 (omega arith) s.first parts.0) (fine_addends (term_atom 0 s.first) (term_fits 0 (omega arith) s.first parts.0) s.rest parts.1))
+        (by (is_factor s))
+      where
+        by : (alone : Bool) → Fine 0 (if alone then [] else set_row 0 (value.Wrap (sum_atom s)) ∷ [])
+        by true = fine_none 0
+        by false = fine_row 0 _ _ (omega arith, sum_fits) refl (fine_none 0)
+
+    value_fits : FitsAtom (value_atom s)
+    value_fits = by (is_factor s)
+      where
+        by : (alone : Bool) → FitsAtom (if alone then sum_atom s else atom.Int 0)
+        by true = sum_fits
+        by false = omega arith
 
 -- ---- statements
 
@@ -151,9 +186,10 @@ module _ (decls : List Array) (count : length decls < 2 ^ 32) (small : list_all 
       let extent = small_extent decls t small in
       let target : t < 2 ^ 32 = omega arith in
       fine_row 1 _ _ fits refl (fine_row 1 _ _ (count, bound_fits n extent) refl
-      (fine_loop line n (sum_code sum ++ (_ ∷ [])) _ fits extent
-      (fine_both 0 (sum_code sum) _ (fine_sum decls count n sum typed) (fine_row 0 _ _ (count, omega arith, omega arith) refl (fine_none 0)))
-      (fine_loop line n _ [] fits extent (fine_row 0 _ _ (omega arith, (count, omega arith)) refl (fine_row 0 _ _ (target, omega arith, omega arith) refl (fine_none 0))) (fine_none 1))))
+      (fine_loop line n (value_code sum ++ (_ ∷ [])) _ fits extent
+      (fine_both 0 (value_code sum) _ (fine_value decls count n sum typed) (fine_row 0 _ _ (count, omega arith, value_fits decls count n sum typed) refl (fine_none 0)))
+      (fine_loop line n _ _ fits extent (fine_row 0 _ _ (omega arith, (count, omega arith)) refl (fine_row 0 _ _ (target, omega arith, omega arith) refl (fine_none 0)))
+      (fine_row 1 _ _ count refl (fine_none 1)))))
 
   fine_shows : (line : ℕ) (ps : List ℕ) → line < 2 ^ 32 → list_all (λ p. nat_lt p (length decls)) ps ≡ true → Fine 1 (map (λ place. show line (extent_of decls place) place) ps)
   fine_shows line [] fits h = fine_none 1

@@ -1,6 +1,6 @@
 -- The three loops that are written: a right side into the temporary, the temporary into its variable, a variable into the record.
-use Rattle.std.proofs.Common.{◌≡◌, ◌≢◌, ◌⊎◌, inl, inr, ℕ, zero, suc, ◌+◌, ◌-◌, ◌<◌, ◌≤◌, ◌^◌, Bool, true, false, List, [], ◌∷◌, ◌++◌, Option, Some, None, Result, Ok, Err, refl, ap, ◌∙◌, sym, subst, arith, ℤ, pos, length, nat_lt, take, append-nil, append_assoc}
-use Rattle.std.specs.Prelude.{get_or, set, map, replicate, if◌then◌else◌}
+use Rattle.std.proofs.Common.{◌≡◌, ◌≢◌, ◌⊎◌, inl, inr, ℕ, suc, ◌+◌, ◌<◌, ◌≤◌, ◌^◌, Bool, true, false, List, [], ◌∷◌, ◌++◌, Option, Some, Ok, Err, refl, ap, ◌∙◌, sym, subst, arith, ℤ, pos, length, nat_lt, take, append_assoc}
+use Rattle.std.specs.Prelude.{set, map, if◌then◌else◌}
 use Rattle.std.proofs.lemmas.List.{get_or-set_same, get_or-set_other, ext_get_or, map-append}
 use Rattle.std.proofs.Math.ListN.{length-set}
 use Rattle.std.proofs.Math.Seq.{take-suc}
@@ -8,12 +8,15 @@ use Rattle.std.proofs.lemmas.Bool.Decides.{nat_tests}
 use Rattle.a95_base.specs.declared.scalar.Scalar.{Scalar}
 use Rattle.a95_base.specs.declared.scalar.Scalar.TheVariants as scalar
 use Rattle.a95_base.specs.Integer.{wrapped}
-use Rattle.std.specs.List.{flat_map}
 use Rattle.rank_one.specs.declared.unit.Addend.{Addend}
 use Rattle.rank_one.specs.declared.unit.Term.{Term}
+use Rattle.rank_one.specs.declared.unit.Factor.{Factor}
+use Rattle.rank_one.specs.declared.unit.Factor.TheVariants as factor
 use Rattle.rank_one.specs.declared.unit.Sum.{Sum}
 use Rattle.rank_one.specs.Meaning.{array_at, sum_value, elements}
+use Rattle.loop_tree.specs.declared.atom.Atom.{Atom}
 use Rattle.loop_tree.specs.declared.atom.Atom.TheVariants as atom
+use Rattle.loop_tree.specs.declared.atom.Reference.TheVariants as reference
 use Rattle.loop_tree.specs.declared.row.IntValue.TheVariants as int
 use Rattle.loop_tree.specs.declared.row.BlockRow.TheVariants as block
 use Rattle.loop_tree.specs.declared.row.ControlRow.TheVariants as control
@@ -26,17 +29,17 @@ use Rattle.loop_tree.specs.declared.tree.Stmt.{Stmt}
 use Rattle.loop_tree.specs.declared.tree.Stmt.TheVariants as stmt
 use Rattle.loop_tree.specs.declared.tree.Function.{Function}
 use Rattle.loop_tree.specs.Lines.{flats}
-use Rattle.loop_tree.specs.State.{Brace, Cells, Ints, Block, State, Next, Goes, with_at, cells_at, cells_numbered, cells_or_stuck, with_cells}
-use Rattle.loop_tree.specs.Values.{number_at, block_at, and_then, ints_of, stored, place_in}
+use Rattle.loop_tree.specs.State.{Brace, Cells, Ints, Block, Goes, cells_numbered, cells_or_stuck, with_cells, without}
+use Rattle.loop_tree.specs.Values.{number_at, block_at, atom_in, and_then, place_in}
 use Rattle.loop_tree.specs.Machine.{step, changed, store_int}
-use Rattle.f95a_core.specs.Lowered.{set_row, term_code, times, plus, sum_code, at_line, fill, move, show}
+use Rattle.f95a_core.specs.Lowered.{set_row, load, factor_atom, times, product_code, term_code, term_atom, plus, addends_code, sum_code, sum_atom, is_factor, value_code, value_atom, at_line, fill, move, free, show}
 use Rattle.f95a_core.proofs.Flat.{first_row, split}
 use Rattle.f95a_core.proofs.Reaching.{Good, silent}
-use Rattle.f95a_core.proofs.Rows.{Vars, at, with_int, step_line, step_cell, step_store, step_put}
-use Rattle.f95a_core.proofs.Cells.{with_at_same, changed_same, changed_other}
+use Rattle.f95a_core.proofs.Rows.{Vars, at, with_int, step_line, step_cell, step_store, step_free, step_put}
+use Rattle.f95a_core.proofs.Cells.{with_at_same, changed_same, changed_other, without_other}
 use Rattle.f95a_core.proofs.Turns.{Passes, passes_none, passes_row, passes_both, Round, loop_does}
-use Rattle.f95a_core.proofs.Sums.{Holds, ints_there, cell_there, row_goes, sum_goes, sum_at}
-use Rattle.f95a_core.proofs.Elements.{SumFits, sum_has, sum_shows, IsInt}
+use Rattle.f95a_core.proofs.Sums.{Holds, ints_there, cell_there, value_goes}
+use Rattle.f95a_core.proofs.Elements.{SumFits, sum_has, sum_shows, stored_is, IsInt}
 
 -- any row in front
 pub row_before : (functions : List Function) (final told : List ℕ) (cost : ℕ) (v w : Vars) (r : Row) (more : List Stmt) (rest : List CodeLine) (braces : List Brace)
@@ -48,20 +51,32 @@ row_before functions final told cost v w r more rest braces e g =
 
 -- ---- the lines of a right side open no brace
 
-passes_times : (fs : List _) → Passes (flat_map times fs)
-passes_times [] = passes_none
-passes_times (f ∷ fs) = passes_both (times f) (flat_map times fs) (passes_row _ _ (passes_row _ _ (passes_row _ _ passes_none))) (passes_times fs)
+passes_load : (n : ℕ) (f : Factor) → Passes (load n f)
+passes_load n (factor.Number z) = passes_none
+passes_load n (factor.Array p) = passes_row _ _ passes_none
 
-passes_term : (t : Term) → Passes (term_code t)
-passes_term t = passes_row _ _ (passes_times t.rest)
+passes_product : (n : ℕ) (left : Atom) (fs : List Factor) → Passes (product_code n left fs)
+passes_product n left [] = passes_none
+passes_product n left (f ∷ fs) =
+    passes_both (times n left f) (product_code n (atom.Int n) fs) (passes_both (load 2 f) _ (passes_load 2 f) (passes_row _ _ passes_none)) (passes_product n (atom.Int n) fs)
 
-passes_plus : (more : List Addend) → Passes (flat_map plus more)
-passes_plus [] = passes_none
-passes_plus (a ∷ more) = passes_both (plus a) (flat_map plus more)
-    (passes_both (term_code a.term) _ (passes_term a.term) (passes_row _ _ (passes_row _ _ passes_none))) (passes_plus more)
+passes_term : (n : ℕ) (t : Term) → Passes (term_code n t)
+passes_term n t = passes_both (load n t.first) _ (passes_load n t.first) (passes_product n (factor_atom n t.first) t.rest)
+
+passes_addends : (left : Atom) (more : List Addend) → Passes (addends_code left more)
+passes_addends left [] = passes_none
+passes_addends left (a ∷ more) =
+    passes_both (plus left a) (addends_code (atom.Int 0) more) (passes_both (term_code 1 a.term) _ (passes_term 1 a.term) (passes_row _ _ passes_none)) (passes_addends (atom.Int 0) more)
 
 passes_sum : (s : Sum) → Passes (sum_code s)
-passes_sum s = passes_both (term_code s.first) _ (passes_term s.first) (passes_row _ _ (passes_plus s.rest))
+passes_sum s = passes_both (term_code 0 s.first) _ (passes_term 0 s.first) (passes_addends (term_atom 0 s.first) s.rest)
+
+passes_value : (s : Sum) → Passes (value_code s)
+passes_value s = passes_both (sum_code s) _ (passes_sum s) (by (is_factor s))
+  where
+    by : (alone : Bool) → Passes (if alone then [] else set_row 0 (int.Wrap (sum_atom s)) ∷ [])
+    by true = passes_none
+    by false = passes_row _ _ passes_none
 
 -- ---- stores
 
@@ -141,26 +156,26 @@ module _ (functions : List Function) (final told : List ℕ) (arrays : List (Lis
   whole = elements n (sum_value arrays sum)
 
   abbrev store_row : ℕ → Stmt
-  store_row b = stmt.Row (row.Block (block.StoreInt b (atom.Loop 1) (atom.Int 0)))
+  store_row b = stmt.Row (row.Block (block.StoreInt b (atom.Loop 1) (value_atom sum)))
 
   abbrev fill_body : List Stmt
-  fill_body = at_line line ∷ (sum_code sum ++ (store_row (length arrays) ∷ []))
+  fill_body = at_line line ∷ (value_code sum ++ (store_row (length arrays) ∷ []))
 
   fill_round : Round functions final told n fill_body (λ i v. Filling arrays whole n m i v)
   fill_round = record {
     does = λ cost i v rest braces within is inv go.
         let put = store_row (length arrays) ∷ [] in
         let u : Vars = record v { line = line } in
-        row_before functions final told cost v u (row.Control (control.At line)) (sum_code sum ++ put) rest braces
-        (step_line functions v (flats (sum_code sum ++ put) ++ rest) braces line)
-        (subst (λ (ls : List CodeLine). Good functions final cost told (at u ls braces)) (sym (split (sum_code sum) put rest))
-        (sum_goes functions final told cost arrays i u inv.holds is braces sum (sum_has arrays n i within sum fits) v.ints (flats put ++ rest) (λ after e.
-        let x = number_at after 0 in
-        let value : x ≡ number_at whole i = e ∙ sym ((sum_shows arrays n sum fits).each i within) in
+        row_before functions final told cost v u (row.Control (control.At line)) (value_code sum ++ put) rest braces
+        (step_line functions v (flats (value_code sum ++ put) ++ rest) braces line)
+        (subst (λ (ls : List CodeLine). Good functions final cost told (at u ls braces)) (sym (split (value_code sum) put rest))
+        (value_goes functions final told cost arrays i u inv.holds is braces sum (sum_has arrays n i within sum fits) v.ints (flats put ++ rest) (λ after e.
+        let x = atom_in after v.indices (value_atom sum) in
+        let value : x ≡ number_at whole i = e ∙ stored_is arrays i sum ∙ sym ((sum_shows arrays n sum fits).each i within) in
         let blocks = with_cells v.blocks m (Ints (set inv.cells i x)) in
         let w : Vars = record u { ints = after; blocks = blocks } in
-        row_before functions final told cost (record u { ints = after }) w (row.Block (block.StoreInt (length arrays) (atom.Loop 1) (atom.Int 0))) [] rest braces
-        (step_store functions (record u { ints = after }) rest braces (length arrays) (atom.Loop 1) (atom.Int 0) blocks
+        row_before functions final told cost (record u { ints = after }) w (row.Block (block.StoreInt (length arrays) (atom.Loop 1) (value_atom sum))) [] rest braces
+        (step_store functions (record u { ints = after }) rest braces (length arrays) (atom.Loop 1) (value_atom sum) blocks
         (store_there v.blocks v.references (length arrays) m i inv.cells (number_at v.indices 1) x inv.temporary.named inv.temporary.there is
         (subst (λ k. i < k) (sym inv.filled.size) within)))
         (go w is (record {
@@ -178,7 +193,7 @@ module _ (functions : List Function) (final told : List ℕ) (arrays : List (Lis
   }
 
   fill_passes : Passes fill_body
-  fill_passes = passes_row _ _ (passes_both (sum_code sum) (store_row (length arrays) ∷ []) (passes_sum sum) (passes_row _ _ passes_none))
+  fill_passes = passes_row _ _ (passes_both (value_code sum) (store_row (length arrays) ∷ []) (passes_value sum) (passes_row _ _ passes_none))
 
   -- from an empty temporary to the whole right side in it
   pub fill_does : n ≤ 2 ^ 24 → (cost : ℕ) (more : List Stmt) (rest : List CodeLine) (braces : List Brace) (v : Vars) → Filling arrays whole n m 0 v
@@ -245,6 +260,27 @@ module _ (functions : List Function) (final told : List ℕ) (arrays : List (Lis
       → Good functions final (cost + n) told (at v (flats (move line n (length arrays) t ∷ more) ++ rest) braces)
   move_does small cost more rest braces v inv go =
       loop_does functions final told n move_body (λ i w. Moving arrays xs n m t i w) move_round move_passes small cost more rest braces v inv go
+
+-- ---- the temporary is freed
+
+-- the blocks of the arrays live on
+holds_without : (arrays : List (List ℤ)) (blocks : List Block) (references : List (Option ℕ)) (made m : ℕ) → length arrays ≤ m
+    → Holds arrays blocks references made → Holds arrays (without blocks m) references made
+holds_without arrays blocks references made m far h = record {
+  cells = λ p within. let ne : m ≢ p = omega arith in without_other blocks m p ne ∙ h.cells p within;
+  named = h.named;
+  fewer = h.fewer;
+}
+
+pub free_does : (functions : List Function) (final told : List ℕ) (all : List (List ℤ)) (b m : ℕ) (xs : List ℤ) → length all ≤ m → (cost : ℕ) (more : List Stmt) (rest : List CodeLine) (braces : List Brace) (v : Vars)
+    → block_at v.references b ≡ Some m → cells_numbered v.blocks m ≡ Some (Ints xs) → Holds all v.blocks v.references v.made
+    → ((w : Vars) → Holds all w.blocks w.references w.made → w.pending ≡ v.pending → Good functions final cost told (at w (flats more ++ rest) braces))
+    → Good functions final cost told (at v (flats (free b ∷ more) ++ rest) braces)
+free_does functions final told all b m xs far cost more rest braces v named there holds go =
+    let w : Vars = record v { blocks = without v.blocks m } in
+    row_before functions final told cost v w (row.Block (block.Free (reference.Ints b))) more rest braces
+    (step_free functions v (flats more ++ rest) braces b m (Ints xs) named there)
+    (go w (holds_without all v.blocks v.references v.made m far holds) refl)
 
 -- ---- a variable into the record
 

@@ -1,9 +1,9 @@
 -- From a state on, a run ends having written a given text. Facts of this form are put in front of one another, one step at a time.
-use Rattle.std.proofs.Common.{◌≡◌, ℕ, zero, suc, ◌+◌, ◌≤◌, Bool, true, false, List, [], ◌∷◌, ◌++◌, Option, Some, None, refl, ap, ◌∙◌, sym, subst, arith, add-zero, append-nil}
+use Rattle.std.proofs.Common.{◌≡◌, ℕ, zero, suc, ◌+◌, ◌≤◌, true, false, List, [], ◌++◌, Some, refl, ap, ◌∙◌, arith, add-zero, append-nil}
 use Rattle.loop_tree.specs.declared.tree.Function.{Function}
-use Rattle.loop_tree.specs.State.{State, End, Ended, Next, Goes, Ends}
+use Rattle.loop_tree.specs.State.{State, Ended, Goes, Ends}
 use Rattle.loop_tree.specs.Machine.{step}
-use Rattle.loop_tree.specs.Run.{Trail, trail, count_turn, after, one_step, walk, Leads}
+use Rattle.loop_tree.specs.Run.{Trail, trail, after, one_step, walk, Leads}
 
 -- with so many turns begun before, and at most `cost` more
 pub record Reaches (functions : List Function) (final : List ℕ) (turns cost : ℕ) (told : List ℕ) (s : State) : Type 0 where

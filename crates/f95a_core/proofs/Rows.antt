@@ -1,6 +1,6 @@
 -- One step of the machine for each row that is written.
-use Rattle.std.proofs.Common.{◌≡◌, ℕ, zero, suc, ◌+◌, ◌<◌, ◌≤◌, Bool, true, false, List, [], ◌∷◌, ◌++◌, Option, Some, None, Result, Ok, Err, refl, ap, ◌∙◌, sym, subst, arith, ℤ, pos, length, nat_lt, nat_le}
-use Rattle.std.specs.Prelude.{get_or, set, replicate, if◌then◌else◌, ◌+ℤ◌, ◌-ℤ◌, ◌*ℤ◌, int_lt}
+use Rattle.std.proofs.Common.{◌≡◌, ℕ, ◌+◌, Bool, true, false, List, [], ◌∷◌, ◌++◌, Option, Some, None, Result, Ok, Err, refl, ap, ◌∙◌, ℤ, pos, nat_le}
+use Rattle.std.specs.Prelude.{replicate, if◌then◌else◌, ◌+ℤ◌, ◌-ℤ◌, ◌*ℤ◌, int_lt}
 use Rattle.std.specs.Int.{w64, int_wrap}
 use Rattle.a95_base.specs.declared.scalar.Scalar.{Scalar}
 use Rattle.a95_base.specs.declared.scalar.Scalar.TheVariants as scalar
@@ -9,7 +9,7 @@ use Rattle.a95_base.specs.Record.{record_text}
 use Rattle.loop_tree.specs.declared.atom.Atom.{Atom}
 use Rattle.loop_tree.specs.declared.atom.Atom.TheVariants as atom
 use Rattle.loop_tree.specs.declared.atom.Operator.TheVariants as operator
-use Rattle.loop_tree.specs.declared.row.Row.{Row}
+use Rattle.loop_tree.specs.declared.atom.Reference.TheVariants as reference
 use Rattle.loop_tree.specs.declared.row.Row.TheVariants as row
 use Rattle.loop_tree.specs.declared.row.IntValue.TheVariants as int
 use Rattle.loop_tree.specs.declared.row.BlockRow.TheVariants as block
@@ -18,9 +18,9 @@ use Rattle.loop_tree.specs.declared.row.RecordRow.TheVariants as record_row
 use Rattle.loop_tree.specs.declared.tree.CodeLine.{CodeLine}
 use Rattle.loop_tree.specs.declared.tree.CodeLine.TheVariants as code
 use Rattle.loop_tree.specs.declared.tree.Function.{Function}
-use Rattle.loop_tree.specs.State.{Brace, Upward, Cells, Ints, Block, Frame, State, End, Ended, Next, Goes, Ends, with_at, cells_at, cells_numbered, with_cells}
-use Rattle.loop_tree.specs.Values.{number_at, block_at, atom_in, and_then, ints_at, int_cell, int_value, operation, place_in, largest, size_within, zeros}
-use Rattle.loop_tree.specs.Machine.{step, step_at, do_line, row_line, int_line, block_line, control_line, at_line, record_line, put_line, new_ints_line, change_line, given, store_int, changed, for_up_line, close_line, leave, begin_loop, again, behind, quiet, turn}
+use Rattle.loop_tree.specs.State.{Brace, Upward, Cells, Ints, Block, State, Ended, Goes, Ends, with_at, cells_at, cells_numbered, cells_or_stuck, without}
+use Rattle.loop_tree.specs.Values.{number_at, block_at, atom_in, and_then, ints_at, int_cell, int_value, operation, largest}
+use Rattle.loop_tree.specs.Machine.{step, step_at, do_line, row_line, int_line, block_line, control_line, at_line, record_line, put_line, new_ints_line, change_line, free_line, freed, given, store_int, changed, for_up_line, close_line, leave, behind, quiet, turn}
 
 -- what changes in a run of a program of one function, but for the lines that come next and the open braces
 pub record Vars : Type 0 where
@@ -117,6 +117,14 @@ module _ (functions : List Function) (v : Vars) (rest : List CodeLine) (braces :
       → step functions (at v (code.Row (row.Block (block.StoreInt b i a)) ∷ rest) braces) ≡ Goes false [] (at (record v { blocks = blocks }) rest braces)
   unfolding step step_at do_line row_line block_line change_line
   step_store b i a blocks there = ap (λ (r : Result (List Block) ℕ). given r (λ bs. at (record v { blocks = bs }) rest braces)) there
+
+  -- a living block is freed
+  pub step_free : (b m : ℕ) (cells : Cells) → block_at v.references b ≡ Some m → cells_numbered v.blocks m ≡ Some cells
+      → step functions (at v (code.Row (row.Block (block.Free (reference.Ints b))) ∷ rest) braces) ≡ Goes false [] (at (record v { blocks = without v.blocks m }) rest braces)
+  unfolding step step_at do_line row_line block_line free_line
+  step_free b m cells named there =
+      ap (λ (r : Option ℕ). given (cells_at v.blocks r) (λ (c : Cells). at (record v { blocks = freed v.blocks r }) rest braces)) named
+      ∙ ap (λ (o : Option Cells). given (cells_or_stuck o) (λ (c : Cells). at (record v { blocks = without v.blocks m }) rest braces)) there
 
   pub step_put : (a : Atom) → step functions (at v (code.Row (row.Record (record_row.PutInt a)) ∷ rest) braces)
       ≡ Goes false [] (at (record v { pending = v.pending ++ scalar.Int (wrapped (atom_in v.ints v.indices a)) ∷ [] }) rest braces)

@@ -1,6 +1,6 @@
 -- What the lines of a list of statements do is what the statements mean.
-use Rattle.std.proofs.Common.{◌≡◌, ◌≢◌, ◌⊎◌, inl, inr, ℕ, zero, suc, ◌+◌, ◌<◌, ◌≤◌, ◌^◌, Bool, true, false, ◌&&◌, List, [], ◌∷◌, ◌++◌, refl, ap, ◌∙◌, sym, subst, arith, ℤ, pos, length, nat_le, nat_lt, take, append-nil, append_assoc}
-use Rattle.std.specs.Prelude.{get_or, set, map, replicate, fold, ◌==◌}
+use Rattle.std.proofs.Common.{◌≡◌, ◌≢◌, ◌⊎◌, inl, inr, ℕ, zero, suc, ◌+◌, ◌<◌, ◌≤◌, ◌^◌, Bool, true, false, ◌&&◌, List, [], ◌∷◌, ◌++◌, refl, ap, ◌∙◌, sym, subst, arith, ℤ, pos, length, nat_le, nat_lt}
+use Rattle.std.specs.Prelude.{set, fold}
 use Rattle.std.specs.List.{flat_map, list_all}
 use Rattle.std.proofs.lemmas.List.{get_or-set_same, get_or-set_other, get_or_past}
 use Rattle.std.proofs.Math.ListN.{length-set}
@@ -8,7 +8,6 @@ use Rattle.std.proofs.lemmas.Bool.{leb-true}
 use Rattle.std.proofs.lemmas.Bool.Decides.{nat_tests}
 use Rattle.a95_base.specs.Lists.{EachOf}
 use Rattle.a95_base.proofs.Wrapping.{wrapped_small}
-use Rattle.a95_base.specs.Record.{record_text}
 use Rattle.rank_one.specs.declared.unit.Array.{Array}
 use Rattle.rank_one.specs.declared.unit.Statement.{Statement}
 use Rattle.rank_one.specs.declared.unit.Action.{Action}
@@ -29,10 +28,9 @@ use Rattle.loop_tree.specs.Lines.{flats}
 use Rattle.loop_tree.specs.State.{Brace}
 use Rattle.loop_tree.specs.Values.{number_at}
 use Rattle.f95a_core.specs.Lowered.{extent_of, action_code, statements_code}
-use Rattle.f95a_core.proofs.Flat.{split}
 use Rattle.f95a_core.proofs.Reaching.{Good, ended, cheaper}
 use Rattle.f95a_core.proofs.Rows.{Vars, at, step_end}
-use Rattle.f95a_core.proofs.Sums.{Holds, sum_at}
+use Rattle.f95a_core.proofs.Sums.{Holds}
 use Rattle.f95a_core.proofs.Elements.{FactorFits, TermFits, SumFits, sum_shows, sum_int, IsInt}
 use Rattle.f95a_core.proofs.Actions.{IsThere, shown_cost, assignment_does, printing_does}
 

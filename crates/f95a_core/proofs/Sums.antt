@@ -1,18 +1,17 @@
--- The lines of a right side leave its element in i0.
-use Rattle.std.proofs.Common.{◌≡◌, ◌≢◌, ℕ, zero, suc, ◌+◌, ◌<◌, ◌≤◌, Bool, true, false, List, [], ◌∷◌, ◌++◌, Option, Some, None, Result, Ok, Err, refl, ap, ◌∙◌, sym, subst, arith, ℤ, pos, length, nat_lt, append-nil}
-use Rattle.std.specs.Prelude.{get_or, if◌then◌else◌, fold, ◌+ℤ◌, ◌-ℤ◌, ◌*ℤ◌}
+-- The lines of a right side leave its element in the atom that is stored.
+use Rattle.std.proofs.Common.{◌≡◌, ◌≢◌, ℕ, ◌<◌, ◌≤◌, Bool, true, false, List, [], ◌∷◌, ◌++◌, Option, Some, Ok, Err, refl, ap, ◌∙◌, sym, subst, arith, ℤ, pos, length, nat_lt}
+use Rattle.std.specs.Prelude.{if◌then◌else◌, fold, ◌+ℤ◌, ◌-ℤ◌, ◌*ℤ◌}
 use Rattle.std.specs.Int.{w64, int_wrap}
-use Rattle.std.specs.List.{flat_map}
 use Rattle.std.proofs.lemmas.Bool.Decides.{nat_tests}
-use Rattle.a95_base.specs.Integer.{wrapped, sum_of, difference_of, product_of}
+use Rattle.a95_base.specs.Integer.{wrapped, product_of}
 use Rattle.a95_base.specs.Lists.{EachOf}
-use Rattle.a95_base.proofs.Wrapping.{wrapped-int_wrap}
 use Rattle.rank_one.specs.declared.unit.Sum.{Sum}
 use Rattle.rank_one.specs.declared.unit.Addend.{Addend}
 use Rattle.rank_one.specs.declared.unit.Term.{Term}
 use Rattle.rank_one.specs.declared.unit.Factor.{Factor}
 use Rattle.rank_one.specs.declared.unit.Factor.TheVariants as factor
 use Rattle.rank_one.specs.Meaning.{array_at, added}
+use Rattle.loop_tree.specs.declared.atom.Atom.{Atom}
 use Rattle.loop_tree.specs.declared.atom.Atom.TheVariants as atom
 use Rattle.loop_tree.specs.declared.atom.Operator.{Operator}
 use Rattle.loop_tree.specs.declared.atom.Operator.TheVariants as operator
@@ -22,16 +21,15 @@ use Rattle.loop_tree.specs.declared.row.Row.TheVariants as row
 use Rattle.loop_tree.specs.declared.tree.CodeLine.{CodeLine}
 use Rattle.loop_tree.specs.declared.tree.CodeLine.TheVariants as code
 use Rattle.loop_tree.specs.declared.tree.Stmt.{Stmt}
-use Rattle.loop_tree.specs.declared.tree.Stmt.TheVariants as stmt
 use Rattle.loop_tree.specs.declared.tree.Function.{Function}
 use Rattle.loop_tree.specs.Lines.{flats}
-use Rattle.loop_tree.specs.State.{Brace, Cells, Ints, Block, State, Next, Goes, with_at, cells_at, cells_numbered, cells_or_stuck}
-use Rattle.loop_tree.specs.Values.{number_at, block_at, and_then, ints_at, ints_of, int_cell, place_in}
+use Rattle.loop_tree.specs.State.{Brace, Cells, Ints, Block, Goes, with_at, cells_numbered, cells_or_stuck}
+use Rattle.loop_tree.specs.Values.{number_at, block_at, atom_in, and_then, ints_at, ints_of, int_cell}
 use Rattle.loop_tree.specs.Machine.{step}
-use Rattle.f95a_core.specs.Lowered.{load, set_row, times, term_code, sign, plus, sum_code}
+use Rattle.f95a_core.specs.Lowered.{set_row, load, factor_atom, times, product_code, product_atom, term_code, term_atom, sign, plus, addends_code, addends_atom, sum_code, sum_atom, is_factor, value_code, value_atom}
 use Rattle.f95a_core.proofs.Flat.{first_row, split}
 use Rattle.f95a_core.proofs.Reaching.{Good, silent}
-use Rattle.f95a_core.proofs.Rows.{Vars, at, with_int, step_atom, step_wrap, step_multiply, step_add, step_subtract, step_cell}
+use Rattle.f95a_core.proofs.Rows.{Vars, at, step_wrap, step_multiply, step_add, step_subtract, step_cell}
 use Rattle.f95a_core.proofs.Cells.{with_at_same, with_at_other}
 
 -- ---- the element of a right side at a place
@@ -51,6 +49,27 @@ sum_from arrays i x addends = fold (λ y a. added a.minus y (term_at arrays i a.
 
 abbrev pub sum_at : List (List ℤ) → ℕ → Sum → ℤ
 sum_at arrays i sum = sum_from arrays i (term_at arrays i sum.first) sum.rest
+
+-- what the rows leave of a term and of a sum: the operations wrap at 64 bits alone
+abbrev pub wide_term_from : List (List ℤ) → ℕ → ℤ → List Factor → ℤ
+wide_term_from arrays i x factors = fold (λ y f. int_wrap w64 (y *ℤ factor_at arrays i f)) x factors
+
+abbrev pub wide_term_at : List (List ℤ) → ℕ → Term → ℤ
+wide_term_at arrays i term = wide_term_from arrays i (factor_at arrays i term.first) term.rest
+
+abbrev pub either_way : Bool → ℤ → ℤ → ℤ
+either_way true x y = x -ℤ y
+either_way false x y = x +ℤ y
+
+abbrev pub wide_sum_from : List (List ℤ) → ℕ → ℤ → List Addend → ℤ
+wide_sum_from arrays i x addends = fold (λ y a. int_wrap w64 (either_way a.minus y (wide_term_at arrays i a.term))) x addends
+
+abbrev pub wide_sum_at : List (List ℤ) → ℕ → Sum → ℤ
+wide_sum_at arrays i sum = wide_sum_from arrays i (wide_term_at arrays i sum.first) sum.rest
+
+-- and of the right side
+abbrev pub stored_at : List (List ℤ) → ℕ → Sum → ℤ
+stored_at arrays i sum = if is_factor sum then wide_sum_at arrays i sum else wrapped (wide_sum_at arrays i sum)
 
 -- the place is one of each array that is named
 abbrev pub FactorHas : List (List ℤ) → ℕ → Factor → Type 0
@@ -102,17 +121,98 @@ module _ (functions : List Function) (final told : List ℕ) (cost : ℕ) where
     abbrev Goes_on : List ℤ → List CodeLine → Type 0
     Goes_on ints rest = Good functions final cost told (at (record v { ints = ints }) rest braces)
 
-    load_step : (f : Factor) → FactorHas arrays i f → (n : ℕ) (ints : List ℤ) (rest : List CodeLine)
-        → step functions (at (with_ints ints) (code.Row (row.Int n (load f)) ∷ rest) braces) ≡ Goes false [] (at (with_ints (with_at (pos 0) ints n (factor_at arrays i f))) rest braces)
-    load_step (factor.Number k) has n ints rest = step_atom functions (with_ints ints) rest braces n (atom.Number (pos k))
-    load_step (factor.Array p) has n ints rest =
-        step_cell functions (with_ints ints) rest braces n p (atom.Loop 1) (array_at arrays p) (number_at (array_at arrays p) i)
-        (ints_there v.blocks v.references p p (array_at arrays p) (holds.named p has.0) (holds.cells p has.0))
-        (cell_there (array_at arrays p) (number_at v.indices 1) i is has.1)
+    abbrev value_in : List ℤ → Atom → ℤ
+    value_in ints a = atom_in ints v.indices a
+
+    -- at most i_n and i2 have changed
+    record Keeps (n : ℕ) (before after : List ℤ) : Type 0 where
+      others : (p : ℕ) → n ≢ p → 2 ≢ p → number_at after p ≡ number_at before p
+
+    keeps_all : (n : ℕ) (ints : List ℤ) → Keeps n ints ints
+    keeps_all n ints = record { others = λ p h k. refl }
+
+    keeps_set : (n : ℕ) (ints : List ℤ) (z : ℤ) → Keeps n ints (with_at (pos 0) ints n z)
+    keeps_set n ints z = record { others = λ p h k. with_at_other (pos 0) ints n p z h }
+
+    keeps_more : (n : ℕ) (a b c : List ℤ) → Keeps n a b → Keeps n b c → Keeps n a c
+    keeps_more n a b c h k = record { others = λ p x y. k.others p x y ∙ h.others p x y }
+
+    keeps_second : (n : ℕ) (a b : List ℤ) → Keeps 2 a b → Keeps n a b
+    keeps_second n a b h = record { others = λ p x y. h.others p y y }
+
+    -- an atom that does not change with them
+    record Steady (n : ℕ) (a : Atom) : Type 0 where
+      same : (before after : List ℤ) → Keeps n before after → value_in after a ≡ value_in before a
+
+    steady_int : (n m : ℕ) → n ≢ m → 2 ≢ m → Steady n (atom.Int m)
+    steady_int n m h k = record { same = λ before after kept. kept.others m h k }
+
+    steady_factor : (n m : ℕ) → n ≢ m → 2 ≢ m → (f : Factor) → Steady n (factor_atom m f)
+    steady_factor n m h k (factor.Number z) = record { same = λ before after kept. refl }
+    steady_factor n m h k (factor.Array p) = steady_int n m h k
+
+    steady_product : (n m : ℕ) → n ≢ m → 2 ≢ m → (left : Atom) → Steady n left → (fs : List Factor) → Steady n (product_atom m left fs)
+    steady_product n m h k left st [] = st
+    steady_product n m h k left st (f ∷ fs) = steady_product n m h k (atom.Int m) (steady_int n m h k) fs
 
     load_goes : (f : Factor) → FactorHas arrays i f → (n : ℕ) (ints : List ℤ) (more : List Stmt) (rest : List CodeLine)
-        → Goes_on (with_at (pos 0) ints n (factor_at arrays i f)) (flats more ++ rest) → Goes_on ints (flats (set_row n (load f) ∷ more) ++ rest)
-    load_goes f has n ints more rest g = row_goes (with_ints ints) (with_ints (with_at (pos 0) ints n (factor_at arrays i f))) n (load f) more rest braces (load_step f has n ints (flats more ++ rest)) g
+        → ((after : List ℤ) → value_in after (factor_atom n f) ≡ factor_at arrays i f → Keeps n ints after → Goes_on after (flats more ++ rest))
+        → Goes_on ints (flats (load n f ++ more) ++ rest)
+    load_goes (factor.Number z) has n ints more rest go = go ints refl (keeps_all n ints)
+    load_goes (factor.Array p) has n ints more rest go =
+        let x = number_at (array_at arrays p) i in
+        let after = with_at (pos 0) ints n x in
+        row_goes (with_ints ints) (with_ints after) n (int.Cell p (atom.Loop 1)) more rest braces
+        (step_cell functions (with_ints ints) (flats more ++ rest) braces n p (atom.Loop 1) (array_at arrays p) x
+        (ints_there v.blocks v.references p p (array_at arrays p) (holds.named p has.0) (holds.cells p has.0))
+        (cell_there (array_at arrays p) (number_at v.indices 1) i is has.1))
+        (go after (with_at_same (pos 0) ints n x) (keeps_set n ints x))
+
+    -- an operation on two atoms
+    operation_goes : (n : ℕ) (left : Atom) (op : Operator) (right : Atom) (g : ℤ → ℤ → ℤ)
+        → ((ints : List ℤ) (rest : List CodeLine) → step functions (at (with_ints ints) (code.Row (row.Int n (int.Operation left op right)) ∷ rest) braces)
+        ≡ Goes false [] (at (with_ints (with_at (pos 0) ints n (int_wrap w64 (g (value_in ints left) (value_in ints right))))) rest braces))
+        → (ints : List ℤ) (x y : ℤ) → value_in ints left ≡ x → value_in ints right ≡ y → (rest : List CodeLine)
+        → ((after : List ℤ) → number_at after n ≡ int_wrap w64 (g x y) → Keeps n ints after → Goes_on after rest)
+        → Goes_on ints (flats (set_row n (int.Operation left op right) ∷ []) ++ rest)
+    operation_goes n left op right g one ints x y first second rest go =
+        let z = int_wrap w64 (g (value_in ints left) (value_in ints right)) in
+        row_goes (with_ints ints) (with_ints (with_at (pos 0) ints n z)) n (int.Operation left op right) [] rest braces (one ints rest)
+        (go (with_at (pos 0) ints n z) (with_at_same (pos 0) ints n z ∙ ap (λ k. int_wrap w64 (g k (value_in ints right))) first ∙ ap (λ k. int_wrap w64 (g x k)) second)
+        (keeps_set n ints z))
+
+    -- ---- terms, in i0 or i1
+
+    module _ (n : ℕ) (apart : 2 ≢ n) where
+      times_goes : (left : Atom) → Steady 2 left → (f : Factor) → FactorHas arrays i f → (x : ℤ) (ints : List ℤ) → value_in ints left ≡ x → (rest : List CodeLine)
+          → ((after : List ℤ) → number_at after n ≡ int_wrap w64 (x *ℤ factor_at arrays i f) → Keeps n ints after → Goes_on after rest)
+          → Goes_on ints (flats (times n left f) ++ rest)
+      times_goes left steady f has x ints first rest go =
+          let right = factor_atom 2 f in
+          load_goes f has 2 ints (set_row n (int.Operation left operator.Multiply right) ∷ []) rest (λ mid second loaded.
+          operation_goes n left operator.Multiply right (λ p q. p *ℤ q) (λ ints' behind. step_multiply functions (with_ints ints') behind braces n left right)
+          mid x (factor_at arrays i f) (steady.same ints mid loaded ∙ first) second rest (λ after value kept.
+          go after value (keeps_more n ints mid after (keeps_second n ints mid loaded) kept)))
+
+      product_goes : (fs : List Factor) → EachOf (FactorHas arrays i) fs → (left : Atom) → Steady 2 left → (x : ℤ) (ints : List ℤ) → value_in ints left ≡ x → (rest : List CodeLine)
+          → ((after : List ℤ) → value_in after (product_atom n left fs) ≡ wide_term_from arrays i x fs → Keeps n ints after → Goes_on after rest)
+          → Goes_on ints (flats (product_code n left fs) ++ rest)
+      product_goes [] has left steady x ints first rest go = go ints first (keeps_all n ints)
+      product_goes (f ∷ fs) has left steady x ints first rest go =
+          subst (λ (ls : List CodeLine). Goes_on ints ls) (sym (split (times n left f) (product_code n (atom.Int n) fs) rest))
+          (times_goes left steady f has.0 x ints first (flats (product_code n (atom.Int n) fs) ++ rest) (λ mid now kept.
+          product_goes fs has.1 (atom.Int n) (steady_int 2 n apart apart) (int_wrap w64 (x *ℤ factor_at arrays i f)) mid now rest (λ after last more.
+          go after last (keeps_more n ints mid after kept more))))
+
+      term_goes : (t : Term) → TermHas arrays i t → (ints : List ℤ) (rest : List CodeLine)
+          → ((after : List ℤ) → value_in after (term_atom n t) ≡ wide_term_at arrays i t → Keeps n ints after → Goes_on after rest)
+          → Goes_on ints (flats (term_code n t) ++ rest)
+      term_goes t has ints rest go =
+          load_goes t.first has.first n ints (product_code n (factor_atom n t.first) t.rest) rest (λ mid loaded kept.
+          product_goes t.rest has.rest (factor_atom n t.first) (steady_factor 2 n apart apart t.first) (factor_at arrays i t.first) mid loaded rest (λ after last more.
+          go after last (keeps_more n ints mid after kept more)))
+
+    -- ---- sums, in i0
 
     one_not_zero : ◌≢◌ {A = ℕ} 1 0
     one_not_zero = omega arith
@@ -123,93 +223,59 @@ module _ (functions : List Function) (final told : List ℕ) (cost : ℕ) where
     two_not_one : ◌≢◌ {A = ℕ} 2 1
     two_not_one = omega arith
 
-    -- an operation on two integers, and what is left of it in 32 bits
-    operation_goes : (op : Operator) (g : ℤ → ℤ → ℤ) (n m : ℕ)
-        → ((u : Vars) (rest : List CodeLine) → step functions (at u (code.Row (row.Int n (int.Operation (atom.Int n) op (atom.Int m))) ∷ rest) braces)
-        ≡ Goes false [] (at (with_int u n (int_wrap w64 (g (number_at u.ints n) (number_at u.ints m)))) rest braces))
-        → (ints : List ℤ) (x y : ℤ) → number_at ints n ≡ x → number_at ints m ≡ y → (rest : List CodeLine)
-        → ((after : List ℤ) → number_at after n ≡ wrapped (g x y) → ((p : ℕ) → n ≢ p → number_at after p ≡ number_at ints p) → Goes_on after rest)
-        → Goes_on ints (flats (set_row n (int.Operation (atom.Int n) op (atom.Int m)) ∷ set_row n (int.Wrap (atom.Int n)) ∷ []) ++ rest)
-    operation_goes op g n m one ints x y left right rest go =
-        let z = int_wrap w64 (g (number_at ints n) (number_at ints m)) in
-        let b = with_at (pos 0) ints n z in
-        let c = with_at (pos 0) b n (wrapped (number_at b n)) in
-        let value : number_at c n ≡ wrapped (g x y) =
-        with_at_same (pos 0) b n (wrapped (number_at b n)) ∙ ap wrapped (with_at_same (pos 0) ints n z)
-        ∙ wrapped-int_wrap (g (number_at ints n) (number_at ints m)) ∙ ap (λ k. wrapped (g k (number_at ints m))) left ∙ ap (λ k. wrapped (g x k)) right in
-        row_goes (with_ints ints) (with_ints b) n (int.Operation (atom.Int n) op (atom.Int m)) (set_row n (int.Wrap (atom.Int n)) ∷ []) rest braces
-        (one (with_ints ints) (flats (set_row n (int.Wrap (atom.Int n)) ∷ []) ++ rest))
-        (row_goes (with_ints b) (with_ints c) n (int.Wrap (atom.Int n)) [] rest braces (step_wrap functions (with_ints b) rest braces n (atom.Int n))
-        (go c value (λ p ne. with_at_other (pos 0) b n p (wrapped (number_at b n)) ne ∙ with_at_other (pos 0) ints n p z ne)))
-
-    -- one more factor
-    times_goes : (f : Factor) → FactorHas arrays i f → (x : ℤ) (ints : List ℤ) → number_at ints 1 ≡ x → (rest : List CodeLine)
-        → ((after : List ℤ) → number_at after 1 ≡ product_of x (factor_at arrays i f) → number_at after 0 ≡ number_at ints 0 → Goes_on after rest)
-        → Goes_on ints (flats (times f) ++ rest)
-    times_goes f has x ints first rest go =
-        let y = factor_at arrays i f in
-        let a = with_at (pos 0) ints 2 y in
-        load_goes f has 2 ints (set_row 1 (int.Operation (atom.Int 1) operator.Multiply (atom.Int 2)) ∷ set_row 1 (int.Wrap (atom.Int 1)) ∷ []) rest
-        (operation_goes operator.Multiply (λ p q. p *ℤ q) 1 2 (λ u behind. step_multiply functions u behind braces 1 (atom.Int 1) (atom.Int 2)) a x y
-        (with_at_other (pos 0) ints 2 1 y two_not_one ∙ first) (with_at_same (pos 0) ints 2 y) rest
-        (λ after value kept. go after value (kept 0 one_not_zero ∙ with_at_other (pos 0) ints 2 0 y two_not_zero)))
-
-    factors_go : (fs : List Factor) → EachOf (FactorHas arrays i) fs → (x : ℤ) (ints : List ℤ) → number_at ints 1 ≡ x → (rest : List CodeLine)
-        → ((after : List ℤ) → number_at after 1 ≡ term_from arrays i x fs → number_at after 0 ≡ number_at ints 0 → Goes_on after rest)
-        → Goes_on ints (flats (flat_map times fs) ++ rest)
-    factors_go [] has x ints first rest go = go ints first refl
-    factors_go (f ∷ fs) has x ints first rest go =
-        subst (λ (ls : List CodeLine). Goes_on ints ls) (sym (split (times f) (flat_map times fs) rest))
-        (times_goes f has.0 x ints first (flats (flat_map times fs) ++ rest) (λ mid now kept.
-        factors_go fs has.1 (product_of x (factor_at arrays i f)) mid now rest (λ after last same. go after last (same ∙ kept))))
-
-    -- a term is left in i1, and i0 is kept
-    pub term_goes : (t : Term) → TermHas arrays i t → (ints : List ℤ) (rest : List CodeLine)
-        → ((after : List ℤ) → number_at after 1 ≡ term_at arrays i t → number_at after 0 ≡ number_at ints 0 → Goes_on after rest)
-        → Goes_on ints (flats (term_code t) ++ rest)
-    term_goes t has ints rest go =
-        let x = factor_at arrays i t.first in
-        load_goes t.first has.first 1 ints (flat_map times t.rest) rest
-        (factors_go t.rest has.rest x (with_at (pos 0) ints 1 x) (with_at_same (pos 0) ints 1 x) rest (λ after last same.
-        go after last (same ∙ with_at_other (pos 0) ints 1 0 x one_not_zero)))
-
-    -- one more term
-    plus_goes : (more : Addend) → TermHas arrays i more.term → (x : ℤ) (ints : List ℤ) → number_at ints 0 ≡ x → (rest : List CodeLine)
-        → ((after : List ℤ) → number_at after 0 ≡ added more.minus x (term_at arrays i more.term) → Goes_on after rest)
-        → Goes_on ints (flats (plus more) ++ rest)
-    plus_goes more has x ints first rest go =
-        subst (λ (ls : List CodeLine). Goes_on ints ls) (sym (split (term_code more.term) (set_row 0 (int.Operation (atom.Int 0) (sign more.minus) (atom.Int 1)) ∷ set_row 0 (int.Wrap (atom.Int 0)) ∷ []) rest))
-        (term_goes more.term has ints (flats (set_row 0 (int.Operation (atom.Int 0) (sign more.minus) (atom.Int 1)) ∷ set_row 0 (int.Wrap (atom.Int 0)) ∷ []) ++ rest)
-        (λ mid right left. by more.minus mid right (left ∙ first) (λ after e. go after e)))
+    plus_goes : (left : Atom) → Steady 1 left → (more : Addend) → TermHas arrays i more.term → (x : ℤ) (ints : List ℤ) → value_in ints left ≡ x → (rest : List CodeLine)
+        → ((after : List ℤ) → number_at after 0 ≡ int_wrap w64 (either_way more.minus x (wide_term_at arrays i more.term)) → Goes_on after rest)
+        → Goes_on ints (flats (plus left more) ++ rest)
+    plus_goes left steady more has x ints first rest go =
+        let right = term_atom 1 more.term in
+        let last = set_row 0 (int.Operation left (sign more.minus) right) ∷ [] in
+        subst (λ (ls : List CodeLine). Goes_on ints ls) (sym (split (term_code 1 more.term) last rest))
+        (term_goes 1 two_not_one more.term has ints (flats last ++ rest) (λ mid second kept.
+        by more.minus mid (steady.same ints mid kept ∙ first) second (λ after e. go after e)))
       where
-        by : (minus : Bool) (mid : List ℤ) → number_at mid 1 ≡ term_at arrays i more.term → number_at mid 0 ≡ x
-            → ((after : List ℤ) → number_at after 0 ≡ added minus x (term_at arrays i more.term) → Goes_on after rest)
-            → Goes_on mid (flats (set_row 0 (int.Operation (atom.Int 0) (sign minus) (atom.Int 1)) ∷ set_row 0 (int.Wrap (atom.Int 0)) ∷ []) ++ rest)
-        by true mid right left go =
-            operation_goes operator.Subtract (λ p q. p -ℤ q) 0 1 (λ u behind. step_subtract functions u behind braces 0 (atom.Int 0) (atom.Int 1)) mid x (term_at arrays i more.term) left right rest
-            (λ after value kept. go after value)
-        by false mid right left go =
-            operation_goes operator.Add (λ p q. p +ℤ q) 0 1 (λ u behind. step_add functions u behind braces 0 (atom.Int 0) (atom.Int 1)) mid x (term_at arrays i more.term) left right rest
-            (λ after value kept. go after value)
+        by : (minus : Bool) (mid : List ℤ) → value_in mid left ≡ x → value_in mid (term_atom 1 more.term) ≡ wide_term_at arrays i more.term
+            → ((after : List ℤ) → number_at after 0 ≡ int_wrap w64 (either_way minus x (wide_term_at arrays i more.term)) → Goes_on after rest)
+            → Goes_on mid (flats (set_row 0 (int.Operation left (sign minus) (term_atom 1 more.term)) ∷ []) ++ rest)
+        by true mid one two go =
+            operation_goes 0 left operator.Subtract (term_atom 1 more.term) (λ p q. p -ℤ q) (λ ints' behind. step_subtract functions (with_ints ints') behind braces 0 left (term_atom 1 more.term))
+            mid x (wide_term_at arrays i more.term) one two rest (λ after value kept. go after value)
+        by false mid one two go =
+            operation_goes 0 left operator.Add (term_atom 1 more.term) (λ p q. p +ℤ q) (λ ints' behind. step_add functions (with_ints ints') behind braces 0 left (term_atom 1 more.term))
+            mid x (wide_term_at arrays i more.term) one two rest (λ after value kept. go after value)
 
-    addends_go : (more : List Addend) → EachOf (λ (a : Addend). TermHas arrays i a.term) more → (x : ℤ) (ints : List ℤ) → number_at ints 0 ≡ x → (rest : List CodeLine)
-        → ((after : List ℤ) → number_at after 0 ≡ sum_from arrays i x more → Goes_on after rest)
-        → Goes_on ints (flats (flat_map plus more) ++ rest)
-    addends_go [] has x ints first rest go = go ints first
-    addends_go (a ∷ more) has x ints first rest go =
-        subst (λ (ls : List CodeLine). Goes_on ints ls) (sym (split (plus a) (flat_map plus more) rest))
-        (plus_goes a has.0 x ints first (flats (flat_map plus more) ++ rest) (λ mid now.
-        addends_go more has.1 (added a.minus x (term_at arrays i a.term)) mid now rest go))
+    addends_go : (more : List Addend) → EachOf (λ (a : Addend). TermHas arrays i a.term) more → (left : Atom) → Steady 1 left → (x : ℤ) (ints : List ℤ) → value_in ints left ≡ x → (rest : List CodeLine)
+        → ((after : List ℤ) → value_in after (addends_atom left more) ≡ wide_sum_from arrays i x more → Goes_on after rest)
+        → Goes_on ints (flats (addends_code left more) ++ rest)
+    addends_go [] has left steady x ints first rest go = go ints first
+    addends_go (a ∷ more) has left steady x ints first rest go =
+        subst (λ (ls : List CodeLine). Goes_on ints ls) (sym (split (plus left a) (addends_code (atom.Int 0) more) rest))
+        (plus_goes left steady a has.0 x ints first (flats (addends_code (atom.Int 0) more) ++ rest) (λ mid now.
+        addends_go more has.1 (atom.Int 0) (steady_int 1 0 one_not_zero two_not_zero) (int_wrap w64 (either_way a.minus x (wide_term_at arrays i a.term))) mid now rest go))
 
-    -- a right side is left in i0
-    pub sum_goes : (s : Sum) → SumHas arrays i s → (ints : List ℤ) (rest : List CodeLine)
-        → ((after : List ℤ) → number_at after 0 ≡ sum_at arrays i s → Goes_on after rest)
+    sum_goes : (s : Sum) → SumHas arrays i s → (ints : List ℤ) (rest : List CodeLine)
+        → ((after : List ℤ) → value_in after (sum_atom s) ≡ wide_sum_at arrays i s → Goes_on after rest)
         → Goes_on ints (flats (sum_code s) ++ rest)
     sum_goes s has ints rest go =
-        let tail = set_row 0 (int.Atom (atom.Int 1)) ∷ flat_map plus s.rest in
-        subst (λ (ls : List CodeLine). Goes_on ints ls) (sym (split (term_code s.first) tail rest))
-        (term_goes s.first has.first ints (flats tail ++ rest) (λ mid right left.
-        let b = with_at (pos 0) mid 0 (number_at mid 1) in
-        row_goes (with_ints mid) (with_ints b) 0 (int.Atom (atom.Int 1)) (flat_map plus s.rest) rest braces
-        (step_atom functions (with_ints mid) (flats (flat_map plus s.rest) ++ rest) braces 0 (atom.Int 1))
-        (addends_go s.rest has.rest (term_at arrays i s.first) b (with_at_same (pos 0) mid 0 (number_at mid 1) ∙ right) rest go)))
+        let left = term_atom 0 s.first in
+        let steady = steady_product 1 0 one_not_zero two_not_zero (factor_atom 0 s.first.first) (steady_factor 1 0 one_not_zero two_not_zero s.first.first) s.first.rest in
+        subst (λ (ls : List CodeLine). Goes_on ints ls) (sym (split (term_code 0 s.first) (addends_code left s.rest) rest))
+        (term_goes 0 two_not_zero s.first has.first ints (flats (addends_code left s.rest) ++ rest) (λ mid value kept.
+        addends_go s.rest has.rest left steady (wide_term_at arrays i s.first) mid value rest go))
+
+    -- a right side is left in the atom that is stored
+    pub value_goes : (s : Sum) → SumHas arrays i s → (ints : List ℤ) (rest : List CodeLine)
+        → ((after : List ℤ) → atom_in after v.indices (value_atom s) ≡ stored_at arrays i s → Goes_on after rest)
+        → Goes_on ints (flats (value_code s) ++ rest)
+    value_goes s has ints rest go =
+        let last = (if is_factor s then [] else set_row 0 (int.Wrap (sum_atom s)) ∷ []) in
+        subst (λ (ls : List CodeLine). Goes_on ints ls) (sym (split (sum_code s) last rest))
+        (sum_goes s has ints (flats last ++ rest) (λ mid value. by (is_factor s) mid value go))
+      where
+        by : (alone : Bool) (mid : List ℤ) → value_in mid (sum_atom s) ≡ wide_sum_at arrays i s
+            → ((after : List ℤ) → value_in after (if alone then sum_atom s else atom.Int 0) ≡ (if alone then wide_sum_at arrays i s else wrapped (wide_sum_at arrays i s)) → Goes_on after rest)
+            → Goes_on mid (flats (if alone then [] else set_row 0 (int.Wrap (sum_atom s)) ∷ []) ++ rest)
+        by true mid value go = go mid value
+        by false mid value go =
+            let z = wrapped (value_in mid (sum_atom s)) in
+            row_goes (with_ints mid) (with_ints (with_at (pos 0) mid 0 z)) 0 (int.Wrap (sum_atom s)) [] rest braces (step_wrap functions (with_ints mid) rest braces 0 (sum_atom s))
+            (go (with_at (pos 0) mid 0 z) (with_at_same (pos 0) mid 0 z ∙ ap wrapped value))

@@ -1,8 +1,8 @@
 -- A loop over 0, 1, .., n - 1: what its body does to a fact from each turn to the next, the loop does to it from the first to the last.
-use Rattle.std.proofs.Common.{◌≡◌, ◌≢◌, ℕ, zero, suc, ◌+◌, ◌-◌, ◌<◌, ◌≤◌, ◌^◌, Bool, true, false, List, [], ◌∷◌, ◌++◌, Option, Some, None, refl, ap, ◌∙◌, sym, subst, arith, ℤ, pos, length, nat_lt}
+use Rattle.std.proofs.Common.{◌≡◌, ℕ, zero, suc, ◌+◌, ◌<◌, ◌≤◌, ◌^◌, true, false, List, [], ◌∷◌, ◌++◌, refl, ap, ◌∙◌, sym, subst, arith, ℤ, pos, nat_lt}
 use Rattle.std.proofs.Common.{◌%◌, to_z}
 use Rattle.std.proofs.lemmas.Int.{ints}
-use Rattle.std.specs.Prelude.{get_or, if◌then◌else◌, ◌+ℤ◌, int_lt}
+use Rattle.std.specs.Prelude.{if◌then◌else◌, ◌+ℤ◌, int_lt}
 use Rattle.std.specs.Int.{w64, int_wrap}
 use Rattle.std.proofs.lemmas.Bool.Decides.{nat_tests}
 use Rattle.loop_tree.specs.declared.atom.Atom.TheVariants as atom
@@ -13,7 +13,7 @@ use Rattle.loop_tree.specs.declared.tree.Stmt.{Stmt}
 use Rattle.loop_tree.specs.declared.tree.Stmt.TheVariants as stmt
 use Rattle.loop_tree.specs.declared.tree.Function.{Function}
 use Rattle.loop_tree.specs.Lines.{flats}
-use Rattle.loop_tree.specs.State.{Brace, Upward, State, Next, Goes, Ends, with_at}
+use Rattle.loop_tree.specs.State.{Brace, Upward, State, with_at}
 use Rattle.loop_tree.specs.Values.{number_at}
 use Rattle.loop_tree.specs.Machine.{step, exits, first_exit, rest_of, behind, quiet, turn}
 use Rattle.f95a_core.proofs.Flat.{first_row, first_up, split}

@@ -1,12 +1,10 @@
 -- The run of the program of a unit, from its start.
-use Rattle.std.proofs.Common.{◌≡◌, ◌≢◌, ◌⊎◌, inl, inr, ℕ, zero, suc, ◌+◌, ◌*◌, ◌<◌, ◌≤◌, ◌^◌, Bool, true, false, List, [], ◌∷◌, ◌++◌, Option, Some, None, refl, ap, ◌∙◌, sym, subst, arith, ℤ, pos, length, nat_le, nat_lt, append-nil, append_assoc, length-append}
-use Rattle.std.specs.Prelude.{get_or, map, replicate, fold}
+use Rattle.std.proofs.Common.{◌≡◌, ◌≢◌, ◌⊎◌, inl, inr, ℕ, zero, suc, ◌+◌, ◌<◌, ◌≤◌, ◌^◌, true, List, [], ◌∷◌, ◌++◌, Some, None, refl, ap, ◌∙◌, sym, subst, arith, ℤ, pos, length, nat_le, append-nil, append_assoc, length-append}
+use Rattle.std.specs.Prelude.{map, replicate}
 use Rattle.std.specs.List.{list_all}
 use Rattle.std.proofs.lemmas.List.{length-map, get_or_append_left, get_or_past}
 use Rattle.std.proofs.Math.ListN.{length-replicate, get_or-replicate}
 use Rattle.std.proofs.Math.Seq.{get_or-append_seam}
-use Rattle.std.proofs.lemmas.Bool.Decides.{nat_tests}
-use Rattle.std.proofs.lemmas.Bool.{leb-true}
 use Rattle.rank_one.specs.declared.unit.Unit.{Unit}
 use Rattle.rank_one.specs.declared.unit.Array.{Array}
 use Rattle.rank_one.specs.Meaning as meaning
@@ -22,18 +20,17 @@ use Rattle.loop_tree.specs.declared.tree.Stmt.{Stmt}
 use Rattle.loop_tree.specs.declared.tree.Stmt.TheVariants as stmt
 use Rattle.loop_tree.specs.declared.tree.Function.{Function}
 use Rattle.loop_tree.specs.Lines.{flats}
-use Rattle.loop_tree.specs.State.{Brace, Cells, Ints, Block, with_at, cells_numbered}
-use Rattle.loop_tree.specs.Values.{number_at, block_at, largest}
+use Rattle.loop_tree.specs.State.{Brace, Ints, with_at, cells_numbered}
+use Rattle.loop_tree.specs.Values.{number_at, block_at}
 use Rattle.loop_tree.specs.Run.{start}
-use Rattle.f95a_core.specs.Lowered.{extent_of, at_line, declared_code, statements_code, unit_code, program_of}
-use Rattle.f95a_core.proofs.Flat.{split}
+use Rattle.f95a_core.specs.Lowered.{extent_of, declared_code, statements_code, program_of}
 use Rattle.f95a_core.proofs.Reaching.{Good}
 use Rattle.f95a_core.proofs.Rows.{Vars, at, step_line, step_new}
 use Rattle.f95a_core.proofs.Cells.{with_at_same, with_at_other, found_new, found_old}
 use Rattle.f95a_core.proofs.Sums.{Holds}
 use Rattle.f95a_core.proofs.Elements.{IsInt}
 use Rattle.f95a_core.proofs.Loops.{row_before}
-use Rattle.f95a_core.proofs.Statements.{both, Stands, zero_int, small_extent, statements_cost, statements_go}
+use Rattle.f95a_core.proofs.Statements.{both, Stands, zero_int, statements_cost, statements_go}
 
 -- ---- declarations
 

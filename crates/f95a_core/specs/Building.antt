@@ -1,11 +1,11 @@
 -- What `build` answers, and what it leaves on its output and in the notes.
-use Rattle.std.specs.Prelude.{◌≡◌, ◌⊎◌, ℕ, List, [], ◌∷◌, ◌++◌, length, codes, Option, Some, None, IfSome, ⊤, if◌then◌else◌}
+use Rattle.std.specs.Prelude.{◌≡◌, ◌⊎◌, ℕ, List, [], ◌∷◌, length, codes, Option, Some, None, IfSome, ⊤, if◌then◌else◌}
 use Rattle.std.specs.Str.{bytes_eq}
 use Rattle.std.specs.Io.KnownBytes.{Appends, Keeps}
 use Rattle.io_edge.specs.Causes.{Rose}
 use Rattle.io_edge.specs.Known.{AppendsFront}
 use Rattle.rank_one.specs.declared.unit.Unit.{Unit}
-use Rattle.rank_one.specs.Reading.{Reads, IsBroken, IsLeastBroken}
+use Rattle.rank_one.specs.Reading.{Reads}
 use Rattle.loop_tree.specs.declared.tree.Function.{Function}
 use Rattle.loop_tree.specs.Text.{text_of_program}
 use Rattle.loop_tree.specs.Program.{ReadsText}

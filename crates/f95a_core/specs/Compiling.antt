@@ -1,5 +1,5 @@
 -- When a source has no program.
-use Rattle.std.specs.Prelude.{◌≡◌, ℕ, List}
+use Rattle.std.specs.Prelude.{ℕ, List}
 use Rattle.f95a_core.specs.declared.compiling.CompileRefusal.{CompileRefusal}
 use Rattle.f95a_core.specs.declared.compiling.CompileRefusal.TheVariants as refusal
 use Rattle.rank_one.specs.Reading.{IsLeastBroken}

@@ -1,6 +1,6 @@
 -- The LoopC program of a typed unit: array p is block bp, and each right side goes into a temporary and then into its variable.
-use Rattle.std.specs.Prelude.{ℕ, ℤ, pos, Bool, true, false, List, [], ◌∷◌, ◌++◌, map, length, ◌+◌}
-use Rattle.std.specs.List.{flat_map, slice_index_or, enumerate_from}
+use Rattle.std.specs.Prelude.{ℕ, pos, Bool, true, false, if◌then◌else◌, List, [], ◌∷◌, ◌++◌, map, length, ◌+◌}
+use Rattle.std.specs.List.{flat_map, slice_index_or}
 use Rattle.rank_one.specs.declared.unit.Unit.{Unit}
 use Rattle.rank_one.specs.declared.unit.Array.{Array}
 use Rattle.rank_one.specs.declared.unit.Statement.{Statement}
@@ -14,41 +14,84 @@ use Rattle.rank_one.specs.declared.unit.Factor.TheVariants as factor
 use Rattle.loop_tree.specs.declared.atom.Atom.{Atom}
 use Rattle.loop_tree.specs.declared.atom.Atom.TheVariants as atom
 use Rattle.loop_tree.specs.declared.atom.Operator.{Operator}
+use Rattle.loop_tree.specs.declared.atom.Reference.TheVariants as reference
 use Rattle.loop_tree.specs.declared.atom.Operator.TheVariants as operator
 use Rattle.loop_tree.specs.declared.row.IntValue.{IntValue}
 use Rattle.loop_tree.specs.declared.row.IntValue.TheVariants as value
 use Rattle.loop_tree.specs.declared.row.BlockRow.TheVariants as block
 use Rattle.loop_tree.specs.declared.row.ControlRow.TheVariants as control
 use Rattle.loop_tree.specs.declared.row.RecordRow.TheVariants as record_row
-use Rattle.loop_tree.specs.declared.row.Row.{Row}
 use Rattle.loop_tree.specs.declared.row.Row.TheVariants as row
 use Rattle.loop_tree.specs.declared.tree.Stmt.{Stmt}
 use Rattle.loop_tree.specs.declared.tree.Stmt.TheVariants as stmt
 use Rattle.loop_tree.specs.declared.tree.Function.{Function}
 
--- i0 holds the sum so far, i1 the term so far, i2 the next factor
+-- i0 holds the sum so far, i1 a further term so far, i2 the next factor. A number stands in its operation as it is, and
+-- an array's element is loaded first.
 abbrev pub set_row : ℕ → IntValue → Stmt
 set_row n v = stmt.Row (row.Int n v)
 
-abbrev pub load : Factor → IntValue
-load (factor.Number n) = value.Atom (atom.Number (pos n))
-load (factor.Array place) = value.Cell place (atom.Loop 1)
+abbrev pub load : ℕ → Factor → List Stmt
+load n (factor.Number z) = []
+load n (factor.Array place) = set_row n (value.Cell place (atom.Loop 1)) ∷ []
 
-abbrev pub times : Factor → List Stmt
-times more = set_row 2 (load more) ∷ set_row 1 (value.Operation (atom.Int 1) operator.Multiply (atom.Int 2)) ∷ set_row 1 (value.Wrap (atom.Int 1)) ∷ []
+abbrev pub factor_atom : ℕ → Factor → Atom
+factor_atom n (factor.Number z) = atom.Number (pos z)
+factor_atom n (factor.Array place) = atom.Int n
 
-abbrev pub term_code : Term → List Stmt
-term_code term = set_row 1 (load term.first) ∷ flat_map times term.rest
+-- an atom times further factors, in variable n
+abbrev pub times : ℕ → Atom → Factor → List Stmt
+times n left more = load 2 more ++ set_row n (value.Operation left operator.Multiply (factor_atom 2 more)) ∷ []
 
+abbrev pub product_code : ℕ → Atom → List Factor → List Stmt
+product_code n left [] = []
+product_code n left (more ∷ factors) = times n left more ++ product_code n (atom.Int n) factors
+
+abbrev pub product_atom : ℕ → Atom → List Factor → Atom
+product_atom n left [] = left
+product_atom n left (more ∷ factors) = product_atom n (atom.Int n) factors
+
+abbrev pub term_code : ℕ → Term → List Stmt
+term_code n term = load n term.first ++ product_code n (factor_atom n term.first) term.rest
+
+abbrev pub term_atom : ℕ → Term → Atom
+term_atom n term = product_atom n (factor_atom n term.first) term.rest
+
+-- an atom, and further terms added to it or subtracted from it
 abbrev pub sign : Bool → Operator
 sign true = operator.Subtract
 sign false = operator.Add
 
-abbrev pub plus : Addend → List Stmt
-plus more = term_code more.term ++ (set_row 0 (value.Operation (atom.Int 0) (sign more.minus) (atom.Int 1)) ∷ set_row 0 (value.Wrap (atom.Int 0)) ∷ [])
+abbrev pub plus : Atom → Addend → List Stmt
+plus left more = term_code 1 more.term ++ set_row 0 (value.Operation left (sign more.minus) (term_atom 1 more.term)) ∷ []
+
+abbrev pub addends_code : Atom → List Addend → List Stmt
+addends_code left [] = []
+addends_code left (more ∷ addends) = plus left more ++ addends_code (atom.Int 0) addends
+
+abbrev pub addends_atom : Atom → List Addend → Atom
+addends_atom left [] = left
+addends_atom left (more ∷ addends) = addends_atom (atom.Int 0) addends
 
 abbrev pub sum_code : Sum → List Stmt
-sum_code sum = term_code sum.first ++ (set_row 0 (value.Atom (atom.Int 1)) ∷ flat_map plus sum.rest)
+sum_code sum = term_code 0 sum.first ++ addends_code (term_atom 0 sum.first) sum.rest
+
+abbrev pub sum_atom : Sum → Atom
+sum_atom sum = addends_atom (term_atom 0 sum.first) sum.rest
+
+-- The operations wrap at 64 bits, so what they leave is wrapped once more. One factor is an INTEGER as it is.
+abbrev pub none_follow : List Factor → List Addend → Bool
+none_follow [] [] = true
+none_follow factors addends = false
+
+abbrev pub is_factor : Sum → Bool
+is_factor sum = none_follow sum.first.rest sum.rest
+
+abbrev pub value_code : Sum → List Stmt
+value_code sum = sum_code sum ++ (if is_factor sum then [] else set_row 0 (value.Wrap (sum_atom sum)) ∷ [])
+
+abbrev pub value_atom : Sum → Atom
+value_atom sum = if is_factor sum then sum_atom sum else atom.Int 0
 
 abbrev pub at_line : ℕ → Stmt
 at_line line = stmt.Row (row.Control (control.At line))
@@ -58,11 +101,15 @@ abbrev pub loop : ℕ → List Stmt → Stmt
 loop extent body = stmt.ForUp 1 (atom.Number (pos extent)) body
 
 abbrev pub fill : ℕ → ℕ → ℕ → Sum → Stmt
-fill line extent temporary sum = loop extent (at_line line ∷ (sum_code sum ++ (stmt.Row (row.Block (block.StoreInt temporary (atom.Loop 1) (atom.Int 0))) ∷ [])))
+fill line extent temporary sum = loop extent (at_line line ∷ (value_code sum ++ (stmt.Row (row.Block (block.StoreInt temporary (atom.Loop 1) (value_atom sum))) ∷ [])))
 
 abbrev pub move : ℕ → ℕ → ℕ → ℕ → Stmt
 move line extent temporary target = loop extent
     (at_line line ∷ set_row 0 (value.Cell temporary (atom.Loop 1)) ∷ stmt.Row (row.Block (block.StoreInt target (atom.Loop 1) (atom.Int 0))) ∷ [])
+
+-- the temporary is needed no more
+abbrev pub free : ℕ → Stmt
+free temporary = stmt.Row (row.Block (block.Free (reference.Ints temporary)))
 
 abbrev pub show : ℕ → ℕ → ℕ → Stmt
 show line extent place = loop extent
@@ -76,7 +123,7 @@ abbrev pub assignment_code : List Array → ℕ → ℕ → Sum → List Stmt
 assignment_code arrays line target sum =
     let extent = extent_of arrays target in
     let temporary = length arrays in
-    at_line line ∷ stmt.Row (row.Block (block.Temp temporary (atom.Number (pos extent)))) ∷ fill line extent temporary sum ∷ move line extent temporary target ∷ []
+    at_line line ∷ stmt.Row (row.Block (block.Temp temporary (atom.Number (pos extent)))) ∷ fill line extent temporary sum ∷ move line extent temporary target ∷ free temporary ∷ []
 
 abbrev pub printing_code : List Array → ℕ → List ℕ → List Stmt
 printing_code arrays line places =

@@ -26,7 +26,7 @@ pub fn compile(alloc: Global, source: &[u8]) -> Result<LoopProgram, CompileRefus
     ensures refused { IfErr result (λ e. IsRefusedFor e source.now) }
 {
     match rank_one::read(alloc, source) {
-        Ok(unit) => lower(alloc, &unit),
+        Ok(unit) => lower(alloc, unit),
         Err(Refusal::Refused { phase, line, rule }) => Err(CompileRefusal::Refused {
             phase,
             line,
@@ -38,9 +38,9 @@ pub fn compile(alloc: Global, source: &[u8]) -> Result<LoopProgram, CompileRefus
 
 /// The program of a unit that a source of so many bytes reads as, or of a longer one.
 #[tactic(auto, using(crate::proofs::Both::follows_it, crate::proofs::Grammatical::program_fits))]
-fn lower(alloc: Global, unit: &Unit) -> Result<LoopProgram, CompileRefusal>
-    requires { IsTyped unit.now }
-    ensures follows { IfOk result (λ program. (bytes : ℕ) → size_of unit.now ≤ bytes → Follows unit.now program bytes) }
+fn lower(alloc: Global, unit: Unit) -> Result<LoopProgram, CompileRefusal>
+    requires { IsTyped unit }
+    ensures follows { IfOk result (λ program. (bytes : ℕ) → size_of unit ≤ bytes → Follows unit program bytes) }
     ensures memory { IfErr result (λ e. e ≡ CompileRefusal.Memory) }
 {
     let Ok(functions) = functions_of(alloc, unit) else {

@@ -1,19 +1,30 @@
 //! Typed units to LoopC: which statements stand for which action is `specs/Lowered.antt`.
-ghost use Rattle.std.specs.Prelude.{◌≡◌, ◌++◌, ◌<◌, ◌^◌, ◌+◌, [], ◌∷◌, length, OnOk, IfOk};
+ghost use Rattle.std.specs.Prelude.{◌≡◌, ◌++◌, ◌<◌, ◌^◌, [], ◌∷◌, length, reverse, OnOk, IfOk};
 ghost use Rattle.f95a_core.specs.Lowered as Lowered;
 
-use loop_tree::{Atom, BlockRow, ControlRow, Function, IntValue, Operator, RecordRow, Row, Stmt};
+use loop_tree::{
+    Atom, BlockRow, ControlRow, Function, IntValue, Operator, RecordRow, Reference, Row, Stmt,
+};
 use rank_one::{Action, Addend, Array, Factor, Statement, Sum, Term, Unit};
 use sqlite_items::Items;
 use std::alloc::{AllocError, Global};
 
-/// What a factor is in the body of a loop over the elements.
-fn load(factor: Factor) -> IntValue
-    ensures { result ≡ Lowered.load factor }
+/// What a factor is, once it is loaded into a variable.
+fn factor_atom(number: u32, factor: Factor) -> Atom
+    ensures { result ≡ Lowered.factor_atom number factor }
 {
     match factor {
-        Factor::Number(number) => IntValue::Atom(Atom::Number(i64::from(number))),
-        Factor::Array(place) => IntValue::Cell(place, Atom::Loop(1)),
+        Factor::Number(value) => Atom::Number(i64::from(value)),
+        Factor::Array(_) => Atom::Int(number),
+    }
+}
+
+fn load(code: &mut Items<Stmt>, number: u32, factor: Factor) -> Result<(), AllocError>
+    ensures { OnOk result (code.new ≡ code.old ++ Lowered.load number factor) }
+{
+    match factor {
+        Factor::Number(_) => Ok(()),
+        Factor::Array(place) => set_row(code, number, IntValue::Cell(place, Atom::Loop(1))),
     }
 }
 
@@ -29,27 +40,30 @@ fn put_line(code: &mut Items<Stmt>, line: u32) -> Result<(), AllocError>
     code.push(Stmt::Row(Row::Control(ControlRow::At(line))))
 }
 
-/// The term so far, times one more factor.
-fn times(code: &mut Items<Stmt>, factor: Factor) -> Result<(), AllocError>
-    ensures { OnOk result (code.new ≡ code.old ++ Lowered.times factor) }
+/// An atom times one more factor.
+fn times(code: &mut Items<Stmt>, number: u32, left: Atom, factor: Factor) -> Result<(), AllocError>
+    ensures { OnOk result (code.new ≡ code.old ++ Lowered.times number left factor) }
 {
-    set_row(code, 2, load(factor))?;
+    load(code, 2, factor)?;
     set_row(
         code,
-        1,
-        IntValue::Operation(Atom::Int(1), Operator::Multiply, Atom::Int(2)),
-    )?;
-    set_row(code, 1, IntValue::Wrap(Atom::Int(1)))
+        number,
+        IntValue::Operation(left, Operator::Multiply, factor_atom(2, factor)),
+    )
 }
 
-fn term_code(code: &mut Items<Stmt>, term: &Term) -> Result<(), AllocError>
-    ensures { OnOk result (code.new ≡ code.old ++ Lowered.term_code term.now) }
+/// Multiplies a term's factors in a variable, and answers the atom that the term then is.
+fn term_code(code: &mut Items<Stmt>, number: u32, term: &Term) -> Result<Atom, AllocError>
+    ensures rows { OnOk result (code.new ≡ code.old ++ Lowered.term_code number term.now) }
+    ensures atom { IfOk result (λ a. a ≡ Lowered.term_atom number term.now) }
 {
-    set_row(code, 1, load(term.first))?;
+    load(code, number, term.first)?;
+    let mut left = factor_atom(number, term.first);
     for factor in term.rest.as_slice() {
-        times(code, *factor)?;
+        times(code, number, left, *factor)?;
+        left = Atom::Int(number);
     }
-    Ok(())
+    Ok(left)
 }
 
 fn sign(minus: bool) -> Operator
@@ -62,35 +76,60 @@ fn sign(minus: bool) -> Operator
     }
 }
 
-/// The sum so far, and one more term.
-fn plus(code: &mut Items<Stmt>, addend: &Addend) -> Result<(), AllocError>
-    ensures { OnOk result (code.new ≡ code.old ++ Lowered.plus addend.now) }
+/// An atom, and one more term.
+fn plus(code: &mut Items<Stmt>, left: Atom, addend: &Addend) -> Result<(), AllocError>
+    ensures { OnOk result (code.new ≡ code.old ++ Lowered.plus left addend.now) }
 {
-    term_code(code, &addend.term)?;
+    let right = term_code(code, 1, &addend.term)?;
     set_row(
         code,
         0,
-        IntValue::Operation(Atom::Int(0), sign(addend.minus), Atom::Int(1)),
-    )?;
-    set_row(code, 0, IntValue::Wrap(Atom::Int(0)))
+        IntValue::Operation(left, sign(addend.minus), right),
+    )
 }
 
-fn sum_code(code: &mut Items<Stmt>, sum: &Sum) -> Result<(), AllocError>
-    ensures { OnOk result (code.new ≡ code.old ++ Lowered.sum_code sum.now) }
+/// Adds up the terms in 64 bits, and answers the atom that the sum then is.
+fn sum_code(code: &mut Items<Stmt>, sum: &Sum) -> Result<Atom, AllocError>
+    ensures rows { OnOk result (code.new ≡ code.old ++ Lowered.sum_code sum.now) }
+    ensures atom { IfOk result (λ a. a ≡ Lowered.sum_atom sum.now) }
 {
-    term_code(code, &sum.first)?;
-    set_row(code, 0, IntValue::Atom(Atom::Int(1)))?;
+    let mut left = term_code(code, 0, &sum.first)?;
     for addend in sum.rest.as_slice() {
-        plus(code, addend)?;
+        plus(code, left, addend)?;
+        left = Atom::Int(0);
     }
-    Ok(())
+    Ok(left)
 }
 
-/// A loop over the elements.
-fn element_loop(extent: u32, body: Items<Stmt>) -> Stmt
-    ensures { result ≡ Lowered.loop extent body }
+fn is_factor(sum: &Sum) -> bool
+    ensures { result ≡ Lowered.is_factor sum.now }
 {
-    Stmt::ForUp(1, Atom::Number(i64::from(extent)), body)
+    match (sum.first.rest.as_slice(), sum.rest.as_slice()) {
+        ([], []) => true,
+        _ => false,
+    }
+}
+
+/// The whole right side, as an INTEGER.
+fn value_code(code: &mut Items<Stmt>, sum: &Sum) -> Result<Atom, AllocError>
+    ensures rows { OnOk result (code.new ≡ code.old ++ Lowered.value_code sum.now) }
+    ensures atom { IfOk result (λ a. a ≡ Lowered.value_atom sum.now) }
+{
+    let atom = sum_code(code, sum)?;
+    if is_factor(sum) {
+        return Ok(atom);
+    }
+    set_row(code, 0, IntValue::Wrap(atom))?;
+    Ok(Atom::Int(0))
+}
+
+/// A loop over the elements. It keeps its body in memory of just its size.
+fn element_loop(alloc: Global, extent: u32, body: Items<Stmt>) -> Result<Stmt, AllocError>
+    ensures { IfOk result (λ s. s ≡ Lowered.loop extent body) }
+{
+    let mut rows = Items::from_vec(Vec::with_capacity(alloc, body.len())?);
+    rows.append(body)?;
+    Ok(Stmt::ForUp(1, Atom::Number(i64::from(extent)), rows))
 }
 
 /// The loop that puts the right side into the temporary.
@@ -105,9 +144,9 @@ fn fill(
 {
     let mut body = Items::new(alloc);
     put_line(&mut body, line)?;
-    sum_code(&mut body, sum)?;
-    body.push(Stmt::Row(Row::Block(BlockRow::StoreInt(temporary, Atom::Loop(1), Atom::Int(0)))))?;
-    Ok(element_loop(extent, body))
+    let value = value_code(&mut body, sum)?;
+    body.push(Stmt::Row(Row::Block(BlockRow::StoreInt(temporary, Atom::Loop(1), value))))?;
+    element_loop(alloc, extent, body)
 }
 
 /// The loop that puts the temporary into the variable.
@@ -124,7 +163,7 @@ fn move_elements(
     put_line(&mut body, line)?;
     set_row(&mut body, 0, IntValue::Cell(temporary, Atom::Loop(1)))?;
     body.push(Stmt::Row(Row::Block(BlockRow::StoreInt(target, Atom::Loop(1), Atom::Int(0)))))?;
-    Ok(element_loop(extent, body))
+    element_loop(alloc, extent, body)
 }
 
 /// The loop that adds the elements of an array to the record.
@@ -135,7 +174,7 @@ fn show(alloc: Global, line: u32, extent: u32, place: u32) -> Result<Stmt, Alloc
     put_line(&mut body, line)?;
     set_row(&mut body, 0, IntValue::Cell(place, Atom::Loop(1)))?;
     body.push(Stmt::Row(Row::Record(RecordRow::PutInt(Atom::Int(0)))))?;
-    Ok(element_loop(extent, body))
+    element_loop(alloc, extent, body)
 }
 
 fn extent_of(arrays: &[Array], place: u32) -> u32
@@ -163,7 +202,8 @@ fn assignment(
     put_line(code, line)?;
     code.push(Stmt::Row(Row::Block(BlockRow::Temp(temporary, Atom::Number(i64::from(extent))))))?;
     code.push(fill(alloc, line, extent, temporary, sum)?)?;
-    code.push(move_elements(alloc, line, extent, temporary, target)?)
+    code.push(move_elements(alloc, line, extent, temporary, target)?)?;
+    code.push(Stmt::Row(Row::Block(BlockRow::Free(Reference::Ints(temporary)))))
 }
 
 fn printing(
@@ -210,17 +250,31 @@ fn statement_code(
     }
 }
 
+/// The same statements, last first, so that each can be taken from the end.
+fn last_first(alloc: Global, statements: Items<Statement>) -> Result<Items<Statement>, AllocError>
+    ensures { IfOk result (λ turned. turned ≡ reverse statements) }
+{
+    let mut statements = statements;
+    let mut turned = Items::from_vec(Vec::with_capacity(alloc, statements.len())?);
+    while let Some(statement) = statements.pop() {
+        turned.push(statement)?;
+    }
+    Ok(turned)
+}
+
+/// Lowers the statements, which stand last first, and lets go of each, so that the program grows into their memory.
 fn statements_code(
     alloc: Global,
     code: &mut Items<Stmt>,
     arrays: &[Array],
-    statements: &[Statement],
+    turned: Items<Statement>,
 ) -> Result<(), AllocError>
     requires { length arrays.now < 2 ^ 32 }
-    ensures { OnOk result (code.new ≡ code.old ++ Lowered.statements_code arrays.now statements.now) }
+    ensures { OnOk result (code.new ≡ code.old ++ Lowered.statements_code arrays.now (reverse turned)) }
 {
-    for statement in statements {
-        statement_code(alloc, code, arrays, statement)?;
+    let mut turned = turned;
+    while let Some(statement) = turned.pop() {
+        statement_code(alloc, code, arrays, &statement)?;
     }
     Ok(())
 }
@@ -242,18 +296,15 @@ fn declared_code(code: &mut Items<Stmt>, arrays: &[Array]) -> Result<(), AllocEr
 }
 
 /// The functions of the program for a unit.
-pub fn functions_of(alloc: Global, unit: &Unit) -> Result<Items<Function>, AllocError>
-    requires { length unit.now.arrays < 2 ^ 32 }
-    ensures { IfOk result (λ fs. fs ≡ Lowered.program_of unit.now) }
+pub fn functions_of(alloc: Global, unit: Unit) -> Result<Items<Function>, AllocError>
+    requires { length unit.arrays < 2 ^ 32 }
+    ensures { IfOk result (λ fs. fs ≡ Lowered.program_of unit) }
 {
+    let Unit { arrays, statements } = unit;
     let mut body = Items::new(alloc);
-    declared_code(&mut body, unit.arrays.as_slice())?;
-    statements_code(
-        alloc,
-        &mut body,
-        unit.arrays.as_slice(),
-        unit.statements.as_slice(),
-    )?;
+    declared_code(&mut body, arrays.as_slice())?;
+    let turned = last_first(alloc, statements)?;
+    statements_code(alloc, &mut body, arrays.as_slice(), turned)?;
     let mut functions = Items::new(alloc);
     functions.push(Function {
         parameters: Items::new(alloc),

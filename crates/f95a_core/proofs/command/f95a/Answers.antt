@@ -1,4 +1,4 @@
-use Rattle.std.proofs.Common.{◌≡◌, ◌∙◌, sym, subst, ap, List, [], ℕ, Option, Some}
+use Rattle.std.proofs.Common.{◌≡◌, ◌∙◌, subst, ap, List, [], ℕ, Option}
 use Rattle.std.specs.Prelude.{unwrap_or}
 use Rattle.f95a_core.specs.Building.{OutputAfter}
 use Rattle.f95a_core.proofs.Answering.{output_told, done_before}
