@@ -13,3 +13,8 @@ pub mod Whole
 pub mod Both
 pub mod Grammatical
 pub mod Answering
+pub mod Digits
+pub mod Taking
+pub mod Joined
+pub mod Telling
+pub mod Ends

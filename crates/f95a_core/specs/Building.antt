@@ -14,11 +14,6 @@ use Rattle.f95a_core.specs.declared.status.Status.TheVariants as status
 use Rattle.f95a_core.specs.Follows.{Follows}
 use Rattle.f95a_core.specs.Status.{note}
 
--- the file that the words ask to build: they are `build` and its name
-abbrev pub operand : List (List ℕ) → Option (List ℕ)
-operand (command ∷ name ∷ []) = if bytes_eq command (codes "build") then Some name else None
-operand words = None
-
 -- the program follows the unit that the bytes read as
 pub record Compiles (bytes : List ℕ) (program : List Function) : Type 0 where
   pub unit : Unit

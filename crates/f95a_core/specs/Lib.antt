@@ -1,5 +1,9 @@
 pub mod Building
+pub mod Commands
 pub mod Compiling
 pub mod Follows
+pub mod Headline
+pub mod Intake
 pub mod Lowered
+pub mod Running
 pub mod Status

@@ -1,29 +1,21 @@
 //! The top call.
-ghost use Rattle.std.specs.Prelude.{◌≡◌, ◌⊎◌, ℕ, List, ◌≤◌, map, string_bytes, Some, None, Option, OnOk, IfOk, ◌≢◌};
+ghost use Rattle.std.specs.Prelude.{◌≡◌, ◌⊎◌, ℕ, List, ◌≤◌, map, string_bytes, is_some, true, Some, None, IfSome, IfOk, ◌≢◌};
 ghost use Rattle.f95a_core.specs.Status.{note};
 ghost use Rattle.f95a_core.specs.Building.{OnWritten};
-ghost use Rattle.std.specs.Option.{option_map};
-ghost use Rattle.std.specs.Io.KnownBytes.{Keeps};
 ghost use Rattle.io_edge.specs.Causes.{Rose};
 ghost use Rattle.rank_one.specs.Reading.{IsBroken, IsLeastBroken};
-ghost use Rattle.f95a_core.specs.Building.{operand, Loaded, Builds, WritesWhole, WritesFront, ComesTo, ComesToAfterLoad, IsOfBuild, IfRefused, OutputAfter, NotesAfter};
+ghost use Rattle.f95a_core.specs.Commands.{to_build, to_run, IsNoCommand, IsOperand};
+ghost use Rattle.f95a_core.specs.Running.{job, RunComesTo, InputAfter};
+ghost use Rattle.f95a_core.specs.Building.{Loaded, Builds, WritesWhole, WritesFront, ComesTo, ComesToAfterLoad, IsOfBuild, IfRefused, OutputAfter, NotesAfter};
 
 use crate::compiling::{CompileRefusal, compile};
+use crate::running::run;
 use crate::status::Status;
+use crate::words::{file_to_build, file_to_run};
 use io_edge::{LoadFault, PutFault, Shelf, Sink, Source};
 use loop_tree::LoopProgram;
 use std::alloc::{AllocError, Global};
 use std::fmt::Write;
-
-/// The file that the words ask to build.
-fn file_to_build(words: &[String]) -> Option<&str>
-    ensures { option_map (λ name. name.now) result ≡ operand (map string_bytes words.now) }
-{
-    match words {
-        [command, name] if command.as_str() == "build" => Some(name.as_str()),
-        _ => None,
-    }
-}
 
 /// Compiles a file and writes the text of its program.
 fn build<H: Shelf, K: Sink>(alloc: Global, name: &str, shelf: &mut H, out: &mut K) -> Status
@@ -123,7 +115,9 @@ fn tell<N: Sink>(alloc: Global, status: Status, notes: &mut N) -> Status
 }
 
 /// Carries out the words of a command line: `build NAME` compiles the file of that name and writes the text of its
-/// program to `out`. The input is left as it is. Each status but `Done` writes its note to `notes`.
+/// program to `out`; `run NAME` and `run NAME --turns N` read the file of that name as such a text, take all of `input`, and
+/// execute the program, which writes its records to `out` and begins at most N turns, or 10^12. Each status but `Done`
+/// writes its note to `notes`.
 pub fn f95a<H: Shelf, S: Source, K: Sink, N: Sink>(
     alloc: Global,
     words: &[String],
@@ -133,25 +127,31 @@ pub fn f95a<H: Shelf, S: Source, K: Sink, N: Sink>(
     notes: &mut N,
 ) -> Status
     // Usage is answered exactly where the words are no command, but for a note that isn't written.
-    ensures usage { result ≡ Status.Usage → operand (map string_bytes words.now) ≡ None }
-    ensures usage_else { operand (map string_bytes words.now) ≡ None → ComesTo Status.Usage result }
+    ensures usage { result ≡ Status.Usage → IsNoCommand (map string_bytes words.now) }
+    ensures usage_else { IsNoCommand (map string_bytes words.now) → ComesTo Status.Usage result }
     // A refusal is that of the file's bytes: the least rule that they break.
-    ensures refused { IfRefused result (λ phase line rule. Loaded (H.file shelf.old) (operand (map string_bytes words.now)) (λ bytes. IsLeastBroken bytes phase line rule)) }
+    ensures refused { IfRefused result (λ phase line rule. Loaded (H.file shelf.old) (to_build (map string_bytes words.now)) (λ bytes. IsLeastBroken bytes phase line rule)) }
     // A source that breaks a rule isn't built.
-    ensures broken { (name bytes : List ℕ) → operand (map string_bytes words.now) ≡ Some name → H.file shelf.old name ≡ Some bytes → (phase line rule : ℕ) → IsBroken bytes phase line rule → result ≢ Status.Done }
+    ensures broken { (name bytes : List ℕ) → to_build (map string_bytes words.now) ≡ Some name → H.file shelf.old name ≡ Some bytes → (phase line rule : ℕ) → IsBroken bytes phase line rule → result ≢ Status.Done }
     // A fault comes only where the object's count rose.
-    ensures read { result ≡ Status.ReadFault → (operand (map string_bytes words.now) ≡ Some (H.failed shelf.new)) × Rose (H.faults shelf.old) (H.faults shelf.new) }
+    ensures read { result ≡ Status.ReadFault → (IsOperand (map string_bytes words.now) (H.failed shelf.new) × Rose (H.faults shelf.old) (H.faults shelf.new)) ⊎ (is_some (to_run (map string_bytes words.now)) ≡ true) × Rose (S.faults input.old) (S.faults input.new) }
     ensures write { result ≡ Status.WriteFault → Rose (K.faults out.old) (K.faults out.new) ⊎ Rose (N.faults notes.old) (N.faults notes.new) }
-    // No other status comes. So a source that breaks no rule is built, unless a device or memory fails.
-    ensures answers { IsOfBuild result }
-    // What is written: the text of a program that follows the source.
-    ensures output { OutputAfter result (H.file shelf.old) (operand (map string_bytes words.now)) (K.written out.old) (K.written out.new) }
+    // No other status comes of `build`. So a source that breaks no rule is built, unless a device or memory fails.
+    ensures answers { to_run (map string_bytes words.now) ≡ None → IsOfBuild result }
+    // What `build` writes: the text of a program that follows the source.
+    ensures output { to_run (map string_bytes words.now) ≡ None → OutputAfter result (H.file shelf.old) (to_build (map string_bytes words.now)) (K.written out.old) (K.written out.new) }
+    // What `run` answers and writes: what the execution of the text's program comes to, unless it is none.
+    ensures run { IfSome (to_run (map string_bytes words.now)) (λ asked. RunComesTo result (job (H.file shelf.old asked.0) (S.left input.old) asked.1) (K.written out.old) (K.written out.new)) }
     ensures notes { NotesAfter result (N.faults notes.old) (N.faults notes.new) (N.written notes.old) (N.written notes.new) }
-    ensures input { input.new ≡ input.old }
+    // The input is taken by `run` alone.
+    ensures input { to_run (map string_bytes words.now) ≡ None → input.new ≡ input.old }
+    ensures taken { IfSome (to_run (map string_bytes words.now)) (λ asked. InputAfter result (S.left input.old) (S.left input.new)) }
 {
-    let _ = &input;
-    match file_to_build(words) {
-        Some(name) => tell(alloc, build(alloc, name, shelf, out), notes),
+    if let Some(name) = file_to_build(words) {
+        return tell(alloc, build(alloc, name, shelf, out), notes);
+    }
+    match file_to_run(words) {
+        Some((name, turns)) => tell(alloc, run(alloc, name, turns, shelf, input, out), notes),
         None => tell(alloc, Status::Usage, notes),
     }
 }

@@ -5,9 +5,14 @@
 
 mod command;
 mod compiling;
+mod intake;
+mod law;
 mod lower;
+mod running;
 mod status;
+mod words;
 
 pub use command::f95a;
 pub use compiling::{CompileRefusal, compile};
+pub use law::headline;
 pub use status::{Status, code};

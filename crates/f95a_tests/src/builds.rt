@@ -118,7 +118,7 @@ fn other_words_are_usage(rt: HostRuntime) -> Result<(), Fail> {
         &[],
         &["build"],
         &["build", "a", "b"],
-        &["run", "a"],
+        &["Run", "a"],
         &["Build", "a"],
         &["a", "build"],
     ];

@@ -8,3 +8,5 @@ mod builds;
 mod calls;
 #[cfg(test)]
 mod reads;
+#[cfg(test)]
+mod runs;
