@@ -1,6 +1,6 @@
 #!/usr/bin/env bash
-# Times `f95a build` on sources of 128 KiB and 1 MiB of assignments, and tells its memory. Run by hand, after `rt ci` or `rt run` has left the program at
-# crates/f95a/out/f95a. Figures are ratios of one run on one machine.
+# Times `f95a build` on sources of 128 KiB and 1 MiB of assignments, and on 1 MiB of the shortest ones, and tells its memory.
+# Run by hand, after `rt ci` or `rt run` has left the program at crates/f95a/out/f95a. Figures are ratios of one run on one machine.
 set -eu
 cd "$(dirname "$0")/.."
 program=$PWD/crates/f95a/out/f95a
@@ -12,9 +12,13 @@ make_source() { # bytes, file
         while (n < want - 60) { line = "a = b * 3 + c - 12 * a * b + " (n % 1000) "\n"; printf "%s", line; n += length(line) }
         printf "print *, a, b, c\nend\n" }' > "$2"
 }
+make_dense() { # bytes, file
+    awk -v want="$1" 'BEGIN { printf "program p\ninteger :: a(9), b(9)\n"; for (n = 40; n < want; n += 4) print "a=b"; print "end" }' > "$2"
+}
 make_source $((128 * 1024)) "$work/small.f95"
 make_source $((1024 * 1024)) "$work/large.f95"
-for size in small large; do
+make_dense $((1024 * 1024)) "$work/dense.f95"
+for size in small large dense; do
     for round in 1 2 3; do
         /usr/bin/time -f "$size round $round: %e s, %M KiB" "$program" build "$work/$size.f95" > "$work/$size.loopc" 2> "$work/time" || { cat "$work/time"; exit 1; }
         tail -n 1 "$work/time"
