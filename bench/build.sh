@@ -1,5 +1,5 @@
 #!/usr/bin/env bash
-# Times `f95a build` on sources of 128 KiB and 1 MiB of assignments, and on 1 MiB of the shortest ones, and tells its memory.
+# Times `f95a build` on sources of 128 KiB and 1 MiB of assignments, and on 1 MiB of the shortest ones, and tells its memory, also as a multiple of the source.
 # Run by hand, after `rt ci` or `rt run` has left the program at crates/f95a/out/f95a. Figures are ratios of one run on one machine.
 set -eu
 cd "$(dirname "$0")/.."
@@ -19,9 +19,11 @@ make_source $((128 * 1024)) "$work/small.f95"
 make_source $((1024 * 1024)) "$work/large.f95"
 make_dense $((1024 * 1024)) "$work/dense.f95"
 for size in small large dense; do
+    bytes=$(stat -c %s "$work/$size.f95")
     for round in 1 2 3; do
-        /usr/bin/time -f "$size round $round: %e s, %M KiB" "$program" build "$work/$size.f95" > "$work/$size.loopc" 2> "$work/time" || { cat "$work/time"; exit 1; }
-        tail -n 1 "$work/time"
+        /usr/bin/time -f "%e %M" -o "$work/time" "$program" build "$work/$size.f95" > "$work/$size.loopc"
+        awk -v name="$size" -v round="$round" -v bytes="$bytes" '{
+            printf "%s round %d: %s s, %d KiB, which is %.1f times the source\n", name, round, $1, $2, $2 * 1024 / bytes }' "$work/time"
     done
-    printf '%s: source %s bytes, text %s bytes\n' "$size" "$(stat -c %s "$work/$size.f95")" "$(stat -c %s "$work/$size.loopc")"
+    printf '%s: source %s bytes, text %s bytes\n' "$size" "$bytes" "$(stat -c %s "$work/$size.loopc")"
 done

@@ -1,11 +1,11 @@
 -- Laws of lists with the same items in another order.
-use Rattle.std.proofs.Common.{◌≡◌, ◌⊎◌, ℕ, zero, suc, ◌+◌, ◌-◌, ◌<◌, ◌≤◌, List, [], ◌∷◌, ◌++◌, length, map, reverse, refl, sym, ap, ◌∙◌, subst, inl, inr, append_assoc, arith, length-append}
+use Rattle.std.proofs.Common.{◌≡◌, ℕ, zero, suc, ◌≤◌, List, [], ◌∷◌, ◌++◌, length, map, reverse, refl, sym, ap, ◌∙◌, subst, inl, inr, append_assoc, arith, length-append}
 use Rattle.std.specs.List.{flat_map}
 use Rattle.std.proofs.lemmas.List.{reverse-append}
 use Rattle.std.proofs.lemmas.Bool.{cases_eq}
 use Rattle.a95_base.specs.Lists.{EachOf, AllLater, Has, Permuted, down_to_one}
 use Rattle.a95_base.specs.Lists.Permuted.{none, skip, swap, join}
-use Rattle.a95_base.proofs.Lists.{Split, split_at, Has-append_cases, Has-append_left, Has-append_right}
+use Rattle.a95_base.proofs.Lists.{split_at, Has-append_cases, Has-append_left, Has-append_right}
 
 pub permuted_same : {A : Type 0} (xs : List A) → Permuted xs xs
 permuted_same [] = none

@@ -1,5 +1,5 @@
 -- What is left of a number in 32 bits, where it was cut to 64 bits before.
-use Rattle.std.proofs.Common.{◌≡◌, ℕ, ◌+◌, ◌-◌, ◌*◌, ◌%◌, ◌/◌, ◌^◌, ◌<◌, ◌≤◌, ℤ, pos, refl, ap, ◌∙◌, sym, arith, Bool, true, false, nat_lt}
+use Rattle.std.proofs.Common.{◌≡◌, ℕ, ◌-◌, ◌%◌, ◌<◌, ℤ, pos, refl, ap, ◌∙◌, arith, Bool, true, false, nat_lt}
 use Rattle.std.specs.Prelude.{negsuc, unsigned_abs}
 use Rattle.std.proofs.Common.{suc}
 use mir.Val.{sel}

@@ -1,14 +1,20 @@
 -- How the statuses of the steps of `build` come together.
-use Rattle.std.proofs.Common.{◌≡◌, ◌≢◌, ◌⊎◌, inl, inr, ℕ, List, [], ◌++◌, Option, Some, None, refl, ap, ◌∙◌, sym, subst}
+use Rattle.std.proofs.Common.{◌≡◌, ◌≢◌, ◌⊎◌, inl, inr, ℕ, ◌≤◌, List, [], ◌++◌, length, Option, Some, None, refl, ap, ◌∙◌, sym, subst}
 use Rattle.std.specs.Prelude.{IfSome}
 use Rattle.std.specs.Io.KnownBytes.{Keeps}
 use Rattle.io_edge.specs.Known.{Loads}
+use Rattle.rank_one.specs.declared.unit.Unit.{Unit}
+use Rattle.rank_one.specs.Reading.{Reads}
+use Rattle.rank_one.specs.Typed.{IsTyped, size_of}
 use Rattle.loop_tree.specs.declared.tree.Function.{Function}
 use Rattle.loop_tree.specs.Text.{text_of_program}
 use Rattle.loop_tree.specs.Program.{IsProgram}
 use Rattle.f95a_core.specs.declared.status.Status.{Status}
 use Rattle.f95a_core.specs.declared.status.Status.TheVariants as status
 use Rattle.f95a_core.specs.Building.{Compiles, IsTold, Loaded, WritesFront, ComesTo, OutputAfter, OnWritten}
+use Rattle.f95a_core.specs.Lowered.{program_of}
+use Rattle.f95a_core.proofs.Both.{follows_it}
+use Rattle.f95a_core.proofs.Grammatical.{program_fits}
 
 -- what was loaded into an empty buffer is the file, where it is told
 pub loaded_is : (told : Option (List ℕ)) (old new bytes : List ℕ) → told ≡ Some bytes → old ≡ [] → Loads told old new → new ≡ bytes
@@ -33,9 +39,15 @@ output_by status.WriteFault file name bytes old new program told compiles is w =
   named = refl;
   bytes = bytes;
   told = told;
-  holds = record { text = text_of_program program; builds = record { program = program; reads = record { text = refl; program = is }; compiles = compiles }; appended = w.appended };
+  holds = record { text = text_of_program program; builds = record { program = program; reads = record { text = refl; program = is }; compiles = compiles }; appended = w.front };
 })
-output_by status.Memory file name bytes old new program told compiles is w = inl w
+output_by status.Memory file name bytes old new program told compiles is w = inr (record {
+  name = name;
+  named = refl;
+  bytes = bytes;
+  told = told;
+  holds = record { text = text_of_program program; builds = record { program = program; reads = record { text = refl; program = is }; compiles = compiles }; appended = w.front };
+})
 output_by other file name bytes old new program told compiles is w = absurd w
 
 -- what came to another status was not done, and so left nothing or a front
@@ -58,3 +70,9 @@ pub done_before : (s result : Status) → ComesTo s result → result ≡ status
 done_before s result (inl same) e = sym same ∙ e
 done_before s result (inr (inl fault)) e = let d = sym fault ∙ e in absurd cc
 done_before s result (inr (inr memory)) e = let d = sym memory ∙ e in absurd cc
+
+-- the same of the program of a unit that what was loaded reads as
+pub written_by : (s : Status) (file : List ℕ → Option (List ℕ)) (name bytes : List ℕ) (old new : Option (List ℕ)) (unit : Unit)
+    → IsTold (file name) bytes → Reads bytes unit → IsTyped unit → size_of unit ≤ length bytes → OnWritten s old new (program_of unit) → OutputAfter s file (Some name) old new
+written_by s file name bytes old new unit told reads typed size w =
+    output_by s file name bytes old new (program_of unit) told (record { unit = unit; reads = reads; follows = follows_it unit typed (length bytes) size }) (program_fits unit typed) w

@@ -1,8 +1,7 @@
 -- How the end of a machine's run is the status of a program's execution.
-use Rattle.std.proofs.Common.{◌≡◌, ◌⊎◌, inl, inr, ℕ, List, [], ◌++◌, length, take, refl, ap, sym, subst, ◌∙◌, Option, arith}
-use Rattle.std.specs.Io.KnownBytes.{Appends, Keeps}
+use Rattle.std.proofs.Common.{◌≡◌, inr, ℕ, List, [], length, take, ap, sym, subst, ◌∙◌, Option, arith}
+use Rattle.std.specs.Io.KnownBytes.{Appends}
 use Rattle.std.proofs.Math.Seq.{take-append_seam}
-use Rattle.io_edge.specs.Known.{AppendsFront}
 use Rattle.loop_tree.specs.declared.tree.Function.{Function}
 use Rattle.loop_tree.specs.State.{State}
 use Rattle.loop_tree.specs.Run.{trail, start}
@@ -28,9 +27,9 @@ front_is_told some functions input turns old new h =
 
 pub executed : SomeOutcome → (e : End) (functions : List Function) (input : List ℕ) (turns : ℕ) (to : State) (old new : Option (List ℕ))
     → machine.RunsTo functions (start functions input) turns e to old new → Executed (status_of e) functions input turns old new
-executed some end.Ended functions input turns to old new h = record { said = h.told; runs = h.runs; appended = h.appended }
-executed some (end.Fault kind line) functions input turns to old new h = record { said = h.told; runs = h.runs; appended = h.appended }
-executed some (end.Stuck why) functions input turns to old new h = record { said = h.told; runs = h.runs; appended = h.appended }
-executed some end.TurnLimit functions input turns to old new h = record { said = h.told; runs = h.runs; appended = h.appended }
+executed some end.Ended functions input turns to old new h = h
+executed some (end.Fault kind line) functions input turns to old new h = h
+executed some (end.Stuck why) functions input turns to old new h = h
+executed some end.TurnLimit functions input turns to old new h = record { told = h.told; runs = h.runs; appended = h.appended }
 executed some end.WriteFault functions input turns to old new h = front_is_told some functions input turns old new h
 executed some end.Memory functions input turns to old new h = inr (front_is_told some functions input turns old new h)

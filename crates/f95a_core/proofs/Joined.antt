@@ -1,5 +1,5 @@
 -- What is built and then run, from the laws of texts and of runs.
-use Rattle.std.proofs.Common.{◌≡◌, ℕ, ◌≤◌, List, [], ◌++◌, length, sym, subst, ap, ◌∙◌, Some, arith}
+use Rattle.std.proofs.Common.{◌≡◌, ℕ, ◌≤◌, List, [], ◌++◌, length, sym, subst, ap, ◌∙◌, arith}
 use Rattle.std.proofs.lemmas.List.{append_assoc}
 use Rattle.loop_tree.specs.declared.tree.Function.{Function}
 use Rattle.loop_tree.specs.Program.{ReadsText}
@@ -8,8 +8,6 @@ use Rattle.loop_tree.specs.Run as run
 use Rattle.loop_tree.specs.Run.{trail, start, Mach}
 use Rattle.loop_tree.specs.RunLaws.{IsFront, OneOutcome, EndStays, OutputGrows, SomeOutcome}
 use Rattle.loop_text.specs.Refused.{OneProgram}
-use Rattle.f95a_core.specs.Building.{Builds}
-use Rattle.f95a_core.specs.Running.{Job, Executes}
 use Rattle.f95a_core.specs.Follows.{Outcome, Ended, Faulted, Going, ProgramDoes, source_run, turn_bound}
 use Rattle.f95a_core.specs.Headline.{Reaches, Headline}
 

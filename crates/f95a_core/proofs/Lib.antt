@@ -18,3 +18,5 @@ pub mod Taking
 pub mod Joined
 pub mod Telling
 pub mod Ends
+pub mod Pieces
+pub mod Written

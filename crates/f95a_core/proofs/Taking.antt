@@ -1,8 +1,8 @@
 -- What has been taken of an input.
-use Rattle.std.proofs.Common.{◌≡◌, ℕ, ◌+◌, ◌^◌, ◌<◌, ◌≤◌, List, [], ◌∷◌, ◌++◌, length, refl, ap, Option, Some, None, arith}
+use Rattle.std.proofs.Common.{ℕ, ◌^◌, ◌<◌, List, length, refl, ap, Option, Some, None, arith}
 use Rattle.std.proofs.lemmas.List.{length-append}
 use Rattle.std.specs.Io.KnownBytes.{Consumes}
-use Rattle.f95a_core.specs.Intake.{input_limit, IsTooLong}
+use Rattle.f95a_core.specs.Intake.{IsTooLong}
 
 pub too_long : (old now : Option (List ℕ)) (bytes : List ℕ) → Consumes old now bytes → 2 ^ 24 < length bytes → IsTooLong old
 too_long None now bytes taken long = record { input = bytes; held = tt; long = long }

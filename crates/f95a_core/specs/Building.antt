@@ -1,6 +1,5 @@
 -- What `build` answers, and what it leaves on its output and in the notes.
-use Rattle.std.specs.Prelude.{◌≡◌, ◌⊎◌, ℕ, List, [], ◌∷◌, length, codes, Option, Some, None, IfSome, ⊤, if◌then◌else◌}
-use Rattle.std.specs.Str.{bytes_eq}
+use Rattle.std.specs.Prelude.{◌≡◌, ◌⊎◌, ℕ, List, length, Option, Some, IfSome, ⊤}
 use Rattle.std.specs.Io.KnownBytes.{Appends, Keeps}
 use Rattle.io_edge.specs.Causes.{Rose}
 use Rattle.io_edge.specs.Known.{AppendsFront}
@@ -12,6 +11,7 @@ use Rattle.loop_tree.specs.Program.{ReadsText}
 use Rattle.f95a_core.specs.declared.status.Status.{Status}
 use Rattle.f95a_core.specs.declared.status.Status.TheVariants as status
 use Rattle.f95a_core.specs.Follows.{Follows}
+use Rattle.f95a_core.specs.Pieces.{BreaksOff}
 use Rattle.f95a_core.specs.Status.{note}
 
 -- the program follows the unit that the bytes read as
@@ -95,11 +95,8 @@ NotesAfter status.Done before now old new = Keeps old new
 NotesAfter result before now old new = Appends old new (note result)
 
 -- what the writing of one program leaves
-pub record FrontOfProgram (old new : Option (List ℕ)) (program : List Function) : Type 0 where
-  pub appended : AppendsFront old new (text_of_program program)
-
 abbrev pub OnWritten : Status → Option (List ℕ) → Option (List ℕ) → List Function → Type 0
 OnWritten status.Done old new program = Appends old new (text_of_program program)
-OnWritten status.WriteFault old new program = FrontOfProgram old new program
-OnWritten status.Memory old new program = Keeps old new
+OnWritten status.WriteFault old new program = BreaksOff old new (text_of_program program)
+OnWritten status.Memory old new program = BreaksOff old new (text_of_program program)
 OnWritten other old new program = ⊥

@@ -6,7 +6,7 @@ use Rattle.loop_tree.specs.State as machine
 use Rattle.loop_tree.specs.Run as run
 use Rattle.loop_tree.specs.RunLaws.{IsFront}
 use Rattle.f95a_core.specs.Building.{Builds}
-use Rattle.f95a_core.specs.Running.{Job, Executes}
+use Rattle.f95a_core.specs.Running.{Executes}
 use Rattle.f95a_core.specs.Follows.{Outcome, Ended, Faulted, Going, source_run, turn_bound, SourceDid}
 
 -- a source that ends or faults is run to the same end; while it goes on, the run has written at least what it has

@@ -5,5 +5,6 @@ pub mod Follows
 pub mod Headline
 pub mod Intake
 pub mod Lowered
+pub mod Pieces
 pub mod Running
 pub mod Status

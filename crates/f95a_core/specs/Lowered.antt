@@ -136,11 +136,14 @@ action_code arrays line (Print places) = printing_code arrays line places
 abbrev pub statements_code : List Array → List Statement → List Stmt
 statements_code arrays statements = flat_map (λ statement. action_code arrays statement.line statement.action) statements
 
+-- the block of an array
+abbrev pub array_code : ℕ → Array → List Stmt
+array_code number array = at_line array.line ∷ stmt.Row (row.Block (block.New number (atom.Number (pos array.extent)))) ∷ []
+
 -- the blocks of the arrays, numbered from the first number on
 abbrev pub declared_code : ℕ → List Array → List Stmt
 declared_code number [] = []
-declared_code number (array ∷ arrays) =
-    at_line array.line ∷ stmt.Row (row.Block (block.New number (atom.Number (pos array.extent)))) ∷ declared_code (number + 1) arrays
+declared_code number (array ∷ arrays) = array_code number array ++ declared_code (number + 1) arrays
 
 abbrev pub unit_code : Unit → List Stmt
 unit_code unit = declared_code 0 unit.arrays ++ statements_code unit.arrays unit.statements

@@ -1,14 +1,15 @@
 -- What `run` answers, and what it leaves on its output and in its input.
-use Rattle.std.specs.Prelude.{◌≡◌, ◌⊎◌, ℕ, ◌^◌, ◌≤◌, ◌<◌, List, [], length, Option, Some, None, IfSome, ⊤}
+use Rattle.std.specs.Prelude.{◌⊎◌, ℕ, ◌≤◌, List, length, Option, ⊤}
 use Rattle.std.specs.Io.KnownBytes.{Appends, Keeps, IsAtEnd}
 use Rattle.io_edge.specs.Known.{AppendsFront}
 use Rattle.loop_tree.specs.declared.tree.Function.{Function}
 use Rattle.loop_tree.specs.State as machine
-use Rattle.loop_tree.specs.Run.{Outcome, Finished, Going, Mach}
+use Rattle.loop_tree.specs.Run.{start, Outcome, Finished, Going, Mach}
 use Rattle.loop_tree.specs.Program.{ReadsText}
 use Rattle.loop_text.specs.Refused.{IsToldAt}
 use Rattle.loop_machine.specs.declared.end.End.{End}
 use Rattle.loop_machine.specs.declared.end.End.TheVariants as end
+use Rattle.loop_machine.specs.Running.{Tells}
 use Rattle.f95a_core.specs.declared.status.Status.{Status}
 use Rattle.f95a_core.specs.declared.status.Status.TheVariants as status
 use Rattle.f95a_core.specs.Building.{IsTold}
@@ -75,12 +76,7 @@ status_of end.TurnLimit = status.TurnLimit
 status_of end.WriteFault = status.WriteFault
 status_of end.Memory = status.Memory
 
--- what the execution of a program on an input wrote, whole or a front
-pub record Tells (program : List Function) (input : List ℕ) (turns : ℕ) (outcome : Outcome) (old new : Option (List ℕ)) : Type 0 where
-  pub said : List ℕ
-  pub runs : Mach program input turns said outcome
-  pub appended : Appends old new said
-
+-- a front of what the execution of a program on an input writes was written
 pub record TellsFront (program : List Function) (input : List ℕ) (turns : ℕ) (old new : Option (List ℕ)) : Type 0 where
   pub said : List ℕ
   pub outcome : Outcome
@@ -88,10 +84,10 @@ pub record TellsFront (program : List Function) (input : List ℕ) (turns : ℕ)
   pub appended : AppendsFront old new said
 
 abbrev pub Executed : Status → List Function → List ℕ → ℕ → Option (List ℕ) → Option (List ℕ) → Type 0
-Executed status.Done program input turns old new = Tells program input turns (Finished machine.Ended) old new
-Executed (status.Fault kind line) program input turns old new = Tells program input turns (Finished (machine.Faulted kind line.0)) old new
-Executed (status.Stuck why) program input turns old new = Tells program input turns (Finished (machine.Stuck why)) old new
-Executed status.TurnLimit program input turns old new = Tells program input turns Going old new
+Executed status.Done program input turns old new = Tells program (start program input) turns (Finished machine.Ended) old new
+Executed (status.Fault kind line) program input turns old new = Tells program (start program input) turns (Finished (machine.Faulted kind line.0)) old new
+Executed (status.Stuck why) program input turns old new = Tells program (start program input) turns (Finished (machine.Stuck why)) old new
+Executed status.TurnLimit program input turns old new = Tells program (start program input) turns Going old new
 Executed status.WriteFault program input turns old new = TellsFront program input turns old new
 Executed status.Memory program input turns old new = Keeps old new ⊎ TellsFront program input turns old new
 Executed other program input turns old new = ⊥

@@ -1,19 +1,20 @@
 //! The top call.
-ghost use Rattle.std.specs.Prelude.{◌≡◌, ◌⊎◌, ℕ, List, ◌≤◌, map, string_bytes, is_some, true, Some, None, IfSome, IfOk, ◌≢◌};
+ghost use Rattle.std.specs.Prelude.{◌≡◌, ◌⊎◌, ℕ, List, ◌<◌, ◌≤◌, ◌^◌, length, map, string_bytes, is_some, true, Some, None, IfSome, IfOk, ◌≢◌};
 ghost use Rattle.f95a_core.specs.Status.{note};
 ghost use Rattle.f95a_core.specs.Building.{OnWritten};
+ghost use Rattle.f95a_core.specs.Lowered.{program_of};
 ghost use Rattle.io_edge.specs.Causes.{Rose};
 ghost use Rattle.rank_one.specs.Reading.{IsBroken, IsLeastBroken};
 ghost use Rattle.f95a_core.specs.Commands.{to_build, to_run, IsNoCommand, IsOperand};
 ghost use Rattle.f95a_core.specs.Running.{job, RunComesTo, InputAfter};
 ghost use Rattle.f95a_core.specs.Building.{Loaded, Builds, WritesWhole, WritesFront, ComesTo, ComesToAfterLoad, IsOfBuild, IfRefused, OutputAfter, NotesAfter};
 
-use crate::compiling::{CompileRefusal, compile};
 use crate::running::run;
 use crate::status::Status;
 use crate::words::{file_to_build, file_to_run};
+use crate::writing::write_unit;
 use io_edge::{LoadFault, PutFault, Shelf, Sink, Source};
-use loop_tree::LoopProgram;
+use rank_one::{Refusal, Unit};
 use std::alloc::{AllocError, Global};
 use std::fmt::Write;
 
@@ -35,23 +36,21 @@ fn build<H: Shelf, K: Sink>(alloc: Global, name: &str, shelf: &mut H, out: &mut 
         Err(LoadFault::Failed) => return Status::ReadFault,
         Err(LoadFault::Memory) => return Status::Memory,
     }
-    match compile(alloc, source.as_slice()) {
-        Ok(program) => write_program(alloc, &program, out),
-        Err(CompileRefusal::Refused { phase, line, rule }) => Status::Refused { phase, line, rule },
-        Err(CompileRefusal::Memory) => Status::Memory,
+    match rank_one::read(alloc, source.as_slice()) {
+        Ok(unit) => write_program(alloc, &unit, out),
+        Err(Refusal::Refused { phase, line, rule }) => Status::Refused { phase, line, rule },
+        Err(Refusal::Memory) => Status::Memory,
     }
 }
 
-/// Writes the text of a program in one piece.
-fn write_program<K: Sink>(alloc: Global, program: &LoopProgram, out: &mut K) -> Status
-    ensures done { OnWritten result (K.written out.old) (K.written out.new) program.now }
+/// Writes the text of a unit's program.
+fn write_program<K: Sink>(alloc: Global, unit: &Unit, out: &mut K) -> Status
+    requires { length unit.now.arrays < 2 ^ 32 }
+    ensures written { OnWritten result (K.written out.old) (K.written out.new) (program_of unit.now) }
     ensures write { result ≡ Status.WriteFault → Rose (K.faults out.old) (K.faults out.new) }
     ensures out { K.faults out.old ≤ K.faults out.new }
 {
-    let Ok(text) = loop_text::print(alloc, program) else {
-        return Status::Memory;
-    };
-    match out.put(text.as_slice()) {
+    match write_unit(alloc, unit, out) {
         Ok(()) => Status::Done,
         Err(PutFault::Failed) => Status::WriteFault,
         Err(PutFault::Memory) => Status::Memory,

@@ -11,6 +11,7 @@ mod lower;
 mod running;
 mod status;
 mod words;
+mod writing;
 
 pub use command::f95a;
 pub use compiling::{CompileRefusal, compile};

@@ -222,7 +222,7 @@ fn printing(
     code.push(Stmt::Row(Row::Record(RecordRow::Write)))
 }
 
-fn statement_code(
+pub fn statement_code(
     alloc: Global,
     code: &mut Items<Stmt>,
     arrays: &[Array],
@@ -279,17 +279,21 @@ fn statements_code(
     Ok(())
 }
 
+/// Makes the block of an array.
+pub fn array_code(code: &mut Items<Stmt>, number: u32, array: &Array) -> Result<(), AllocError>
+    ensures { OnOk result (code.new ≡ code.old ++ Lowered.array_code number array.now) }
+{
+    put_line(code, array.line)?;
+    code.push(Stmt::Row(Row::Block(BlockRow::New(number, Atom::Number(i64::from(array.extent))))))
+}
+
 fn declared_code(code: &mut Items<Stmt>, arrays: &[Array]) -> Result<(), AllocError>
     requires { length arrays.now < 2 ^ 32 }
     ensures { OnOk result (code.new ≡ code.old ++ Lowered.declared_code 0 arrays.now) }
 {
     let mut number = 0;
     for array in arrays {
-        put_line(code, array.line)?;
-        code.push(Stmt::Row(Row::Block(BlockRow::New(
-            number,
-            Atom::Number(i64::from(array.extent)),
-        ))))?;
+        array_code(code, number, array)?;
         number += 1;
     }
     Ok(())

@@ -8,7 +8,6 @@ mod level;
 mod printer;
 mod reader;
 mod reading;
-mod stack;
 
-pub use printer::print;
+pub use printer::{begin_main, end_function, print, put_statements};
 pub use reading::{NoText, one_line, one_program, read};

@@ -12,9 +12,42 @@ pub fn print(alloc: Global, program: &LoopProgram) -> Result<Vec<u8>, Memory>
     ensures { IfOk result (λ bytes. bytes.items ≡ text_of_program program.now) }
 {
     let mut out = String::new(alloc);
-    write!(out, "/* LoopC 1 */\n")?;
+    put_first_line(&mut out)?;
     put_functions(&mut out, program.functions())?;
     Ok(out.into_bytes())
+}
+
+fn put_first_line(out: &mut String) -> Result<(), AllocError>
+    ensures { OnOk result (string_bytes out.new ≡ string_bytes out.old ++ with_line_feeds (codes "/* LoopC 1 */" ∷ [])) }
+{
+    write!(out, "/* LoopC 1 */\n")
+}
+
+/// Appends what a text begins with where its function 0 is written by pieces: the first line, and the head of that
+/// function, which has no parameters. Then come its statements, by `put_statements`, and `end_function`.
+pub fn begin_main(out: &mut String) -> Result<(), Memory>
+    ensures { OnOk result (string_bytes out.new ≡ string_bytes out.old ++ with_line_feeds (codes "/* LoopC 1 */" ∷ function_head 0 [] ∷ [])) }
+{
+    put_first_line(out)?;
+    put_head(out, 0, &[])?;
+    write!(out, "\n")?;
+    Ok(())
+}
+
+/// Appends the lines of statements.
+pub fn put_statements(out: &mut String, statements: &[Stmt]) -> Result<(), Memory>
+    ensures { OnOk result (string_bytes out.new ≡ string_bytes out.old ++ with_line_feeds (map spell (flats statements.now))) }
+{
+    put_all(out, statements)?;
+    Ok(())
+}
+
+/// Appends the line that closes a function.
+pub fn end_function(out: &mut String) -> Result<(), Memory>
+    ensures { OnOk result (string_bytes out.new ≡ string_bytes out.old ++ with_line_feeds (spell CodeLine.Close ∷ [])) }
+{
+    write!(out, "}}\n")?;
+    Ok(())
 }
 
 /// The functions, which are numbered from 0.

@@ -1,9 +1,9 @@
 -- A run has an outcome within any number of turns: a step that begins no turn leaves less to do.
-use Rattle.std.proofs.Common.{◌≡◌, ℕ, zero, suc, ◌+◌, ◌-◌, ◌≤◌, ◌<◌, Bool, true, false, List, [], ◌++◌, Some, refl, ap, subst, arith}
+use Rattle.std.proofs.Common.{◌≡◌, ℕ, zero, suc, ◌+◌, ◌-◌, ◌<◌, Bool, true, false, List, ◌++◌, refl, ap, arith}
 use Rattle.loop_tree.specs.declared.tree.Function.{Function}
-use Rattle.loop_tree.specs.State.{State, Next, Goes, Ends, End}
+use Rattle.loop_tree.specs.State.{State, Next, Goes, Ends}
 use Rattle.loop_tree.specs.Machine.{step}
-use Rattle.loop_tree.specs.Run.{Trail, trail, count_turn, after, Leads, begins_turn, Outcome, Finished, Going, FinishesAt, GoesOnAt, Runs}
+use Rattle.loop_tree.specs.Run.{Trail, trail, count_turn, after, begins_turn, Finished, Going}
 use Rattle.loop_tree.specs.RunLaws.{HasOutcome, SomeOutcome}
 use Rattle.loop_tree.proofs.Runs.{stays, steps_once}
 use Rattle.loop_tree.proofs.Outcomes.{runs_behind}

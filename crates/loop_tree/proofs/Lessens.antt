@@ -1,6 +1,6 @@
 -- A step that begins no turn leaves less to do: each call's lines that come next grow fewer, since every exit is taken
 -- from them.
-use Rattle.std.proofs.Common.{◌≡◌, ℕ, zero, suc, ◌+◌, ◌≤◌, ◌<◌, ℤ, Bool, true, false, List, [], ◌∷◌, ◌++◌, length, Option, Some, None, Result, Ok, Err, if◌then◌else◌, pos, ◌+ℤ◌, ◌-ℤ◌, refl, ap, arith}
+use Rattle.std.proofs.Common.{◌≡◌, ℕ, suc, ◌+◌, ◌≤◌, ◌<◌, ℤ, Bool, true, false, List, [], ◌∷◌, length, Option, Some, None, Result, Ok, Err, if◌then◌else◌, pos, ◌+ℤ◌, ◌-ℤ◌, refl, ap, arith}
 use Rattle.std.specs.Int.{w64, int_wrap}
 use Rattle.std.specs.List.{AllByRecursion, list_all}
 use Rattle.a95_base.specs.Input.{Reading, Integer, NoMore, NoInteger, next_value}
@@ -20,7 +20,7 @@ use Rattle.loop_tree.specs.declared.tree.CodeLine.{CodeLine}
 use Rattle.loop_tree.specs.declared.tree.CodeLine.TheVariants as code
 use Rattle.loop_tree.specs.declared.tree.Function.{Function}
 use Rattle.loop_tree.specs.declared.row.TextValue.{TextValue}
-use Rattle.loop_tree.specs.State.{Brace, Choice, Upward, Downward, Forever, Cells, Frame, State, Stuck, Next, Goes, Ends, with_rest, set_int, set_index, set_text}
+use Rattle.loop_tree.specs.State.{Brace, Choice, Upward, Downward, Forever, Frame, State, Stuck, Next, Goes, Ends, with_rest, set_int, set_index, set_text}
 use Rattle.loop_tree.specs.Values.{number_at, atom_of, holds, int_value, text_value}
 use Rattle.loop_tree.specs.Machine as machine
 use Rattle.loop_tree.specs.Machine.{given, rest_of, first_exit, exit_of, behind, exits, loop_end, Place, back_to, leave, begin_loop, again, skip_choice, if_line, for_up_line, for_down_line, forever_line, close_line, else_line, take_line, int_line, text_line, change_line, free_line, new_ints_line, new_texts_line, same_ints_line, same_texts_line, block_line, enter_if, callable, is_usable, call_line, break_line, continue_line, at_line, control_line, put_line, record_line, row_line, do_line, step_at, step}

@@ -1,5 +1,5 @@
 -- Induction over statements, and the lines, depth and leaving of each kind of statement.
-use Rattle.std.proofs.Common.{◌≡◌, ℕ, ◌+◌, max, Bool, true, false, ◌||◌, List, [], ◌∷◌, ◌++◌, map, refl, sym, ◌∙◌, ap, subst}
+use Rattle.std.proofs.Common.{◌≡◌, ℕ, ◌+◌, max, Bool, false, ◌||◌, List, [], ◌∷◌, ◌++◌, map, sym, ◌∙◌, ap, subst}
 use Rattle.std.specs.List.{AllByRecursion}
 use Rattle.loop_tree.specs.declared.atom.Atom.{Atom}
 use Rattle.loop_tree.specs.declared.row.Row.{Row}
@@ -7,10 +7,10 @@ use Rattle.loop_tree.specs.declared.tree.Stmt.{Stmt, roll-Stmt}
 use Rattle.loop_tree.specs.declared.tree.Stmt.TheVariants as stmt
 use Rattle.loop_tree.specs.declared.tree.Stmt.TheOpen.{Stmt-F}
 use Rattle.loop_tree.specs.declared.tree.Stmt.TheOpen as layer
-use Rattle.loop_tree.specs.declared.tree.Stmt.TheFolds.{fold-Stmt, fold-roll-Stmt, ind-Stmt, map-Stmt}
+use Rattle.loop_tree.specs.declared.tree.Stmt.TheFolds.{fold-roll-Stmt, ind-Stmt, map-Stmt}
 use Rattle.loop_tree.specs.declared.tree.CodeLine.{CodeLine}
 use Rattle.loop_tree.specs.declared.tree.CodeLine.TheVariants as code
-use Rattle.loop_tree.specs.Lines.{joined, flat_at, flat, flats}
+use Rattle.loop_tree.specs.Lines.{flat_at, flat, flats}
 use Rattle.loop_tree.specs.Program.{depth_at, depth, depths, leaves_row, leaves_at, leaves, some_leaves}
 
 -- ---- the lines of each kind

@@ -11,6 +11,7 @@ mod laws;
 mod program;
 mod row;
 mod row_text;
+mod stack;
 mod text;
 mod tree;
 
@@ -20,4 +21,5 @@ pub use laws::{
 };
 pub use program::LoopProgram;
 pub use row::{BlockRow, ControlRow, IntValue, RecordRow, Row, TextValue};
+pub use stack::Stack;
 pub use tree::{CodeLine, Function, Stmt};

@@ -1,4 +1,4 @@
-use Rattle.std.proofs.Common.{◌≡◌, ◌∙◌, sym, subst, ap, List, [], ℕ, Option, Some}
+use Rattle.std.proofs.Common.{◌≡◌, ◌∙◌, subst, ap, List, [], ℕ, Option}
 use Rattle.std.specs.Prelude.{unwrap_or, IfSome}
 use Rattle.f95a_core.specs.Building.{OutputAfter}
 use Rattle.f95a_core.specs.Commands.{Run}

@@ -1,4 +1,4 @@
-use Rattle.std.proofs.Common.{◌≡◌, ◌<◌, ◌^◌, arith}
+use Rattle.std.proofs.Common.{arith}
 use Rattle.f95a_core.proofs.Taking.{too_long}
 use Rattle.f95a_core.proofs.intake.take_all.Goals as goal
 

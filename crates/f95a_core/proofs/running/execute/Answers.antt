@@ -1,4 +1,4 @@
-use Rattle.std.proofs.Common.{◌≡◌, ap, sym, subst}
+use Rattle.std.proofs.Common.{ap, sym, subst}
 use Rattle.loop_machine.specs.Running as machine
 use Rattle.f95a_core.specs.declared.status.Status.{Status}
 use Rattle.f95a_core.specs.Running.{Executed}

@@ -1,4 +1,4 @@
-use Rattle.std.proofs.Common.{◌≡◌, ◌+◌, ◌*◌, ◌<◌, ◌≤◌, ◌^◌, arith}
+use Rattle.std.proofs.Common.{arith}
 use Rattle.f95a_core.proofs.Digits.{room}
 use Rattle.f95a_core.proofs.words.turns_of.Goals as goal
 
