@@ -72,6 +72,10 @@ module _ (functions : List Function) where
   kept_same None = tt
   kept_same (Some bytes) = refl
 
+  -- a step that writes nothing and begins no turn
+  pub quiet_passes : (from to : State) (bytes : Option (List ℕ)) → step functions from ≡ Goes false [] to → Passes functions from to bytes bytes
+  quiet_passes from to bytes e = record { wrote = []; stepped = e; appended = Appends-nil bytes }
+
   pub passes_lessen : (from to : State) (old new : Option (List ℕ)) → Passes functions from to old new → left_over to < left_over from
   passes_lessen from to old new p = subst (λ (next : Next). Lessens (left_over from) next) p.stepped (step_lessens functions from)
 

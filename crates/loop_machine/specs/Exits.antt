@@ -1,4 +1,4 @@
--- Where the open braces close, as places in the list of lines.
+-- Where the open braces close, as places in the list of lines: what the table of a routine holds. No public clause cites it.
 use Rattle.std.specs.Prelude.{ℕ, ◌+◌, List, [], ◌∷◌, length}
 use Rattle.loop_tree.specs.declared.tree.CodeLine.{CodeLine}
 use Rattle.loop_tree.specs.declared.tree.CodeLine.TheVariants as code

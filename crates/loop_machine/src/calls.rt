@@ -7,11 +7,10 @@ ghost use Rattle.loop_machine.specs.Callees.{accepts, entered, with_argument};
 ghost use Rattle.loop_machine.specs.Moves.{Did};
 
 use crate::routine::Routine;
-use crate::stack::Stack;
 use crate::state::{Active, Core, Move};
 use crate::values::{atom, block, text};
 use a95_base::Bytes;
-use loop_tree::{Argument, Letter, Reference};
+use loop_tree::{Argument, Letter, Reference, Stack};
 use loop_values::{Link, Links, Numbers, Words};
 use std::alloc::AllocError;
 use std::mem;

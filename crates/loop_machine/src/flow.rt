@@ -1,7 +1,6 @@
 //! Lines that say where the program goes on. Each function does what its word in the definition says of a state whose
 //! rest begins behind the line.
-ghost use Rattle.std.specs.Prelude.{◌≡◌, ◌∷◌, ◌+◌, ◌<◌, ◌^◌, ◌+ℤ◌, ◌-ℤ◌, [], drop, OnSome, map, IfOk, OnOk, MatchOption, pos, int_lt, int_le};
-ghost use Rattle.std.specs.Int.{w64, int_wrap};
+ghost use Rattle.std.specs.Prelude.{◌≡◌, ◌∷◌, ◌+◌, ◌<◌, ◌^◌, [], drop, OnSome, map, IfOk, OnOk, MatchOption, pos, int_lt, int_le};
 ghost use Rattle.loop_tree.specs.State.{set_index, with_at};
 ghost use Rattle.loop_tree.specs.Values.{number_at, atom_in, atom_of};
 ghost use Rattle.loop_tree.specs.Machine.{leave, if_line, skip_choice, else_line, begin_loop, again, at_line, for_up_line, for_down_line, forever_line, close_line, break_line, continue_line, exits, exit_of, behind, rest_of, first_exit, loop_end};
@@ -9,13 +8,23 @@ ghost use Rattle.loop_machine.specs.Shown.{lines_in, brace, shown, is_else, begi
 ghost use Rattle.loop_machine.specs.Moves.{Did};
 
 use crate::routine::Routine;
-use crate::stack::Stack;
 use crate::state::{Core, Held, Move};
 use crate::values::atom;
-use loop_tree::{Atom, CodeLine};
-use loop_values::Numbers;
+use loop_tree::{Atom, CodeLine, Stack};
+use loop_values::{Numbers, difference, sum};
 use sqlite_items::at;
 use std::alloc::AllocError;
+
+/// The lines of a function.
+#[tactic(auto, using(crate::proofs::Exits::no_lines))]
+pub fn lines_at(routines: &[Routine], routine: usize) -> &[CodeLine]
+    ensures { result.now ≡ lines_in routines.now routine }
+{
+    match routines.get(routine) {
+        Some(found) => found.lines(),
+        None => &[],
+    }
+}
 
 /// The line at a place of a function, or None behind the last one.
 #[tactic(auto, using(crate::proofs::Exits::no_lines))]
@@ -161,21 +170,10 @@ pub fn begin_forever(routines: &[Routine], core: &mut Core, may: bool) -> Move
     }
 }
 
-fn one_more(x: i64) -> i64
-    ensures { result ≡ int_wrap w64 (x +ℤ pos 1) }
-{
-    x.wrapping_add(1)
-}
-
-fn one_less(x: i64) -> i64
-    ensures { result ≡ int_wrap w64 (x -ℤ pos 1) }
-{
-    x.wrapping_sub(1)
-}
-
 /// A loop variable that is set to a value stands below the bound then.
+#[inline(always)]
 #[tactic(auto, using(crate::proofs::Variables::set_same, crate::proofs::Variables::set_other))]
-fn is_below(ints: &Numbers, indices: &Numbers, k: u32, bound: Atom, value: i64) -> bool
+pub fn is_below(ints: &Numbers, indices: &Numbers, k: u32, bound: Atom, value: i64) -> bool
     ensures { result ≡ int_lt (number_at (with_at (pos 0) indices.now k value) k) (atom_in ints.now (with_at (pos 0) indices.now k value) bound) }
 {
     let limit = match bound {
@@ -246,7 +244,7 @@ pub fn begin_up(routines: &[Routine], core: &mut Core, k: u32, bound: Atom, may:
 pub fn begin_down(routines: &[Routine], core: &mut Core, k: u32, bound: i64, may: bool) -> Move
     ensures { Did (for_down_line (shown routines.now core.old) k bound) may routines.now core.old core.new result }
 {
-    let value = one_less(bound);
+    let value = difference(bound, 1);
     let goes = is_natural(&core.active.indices, k, value);
     let held = Held::Downward {
         k,
@@ -299,12 +297,12 @@ pub fn close(routines: &[Routine], core: &mut Core, may: bool) -> Move
             Move::Quiet
         }
         Held::Upward { k, bound, body } => {
-            let value = one_more(core.active.indices.get(k));
+            let value = sum(core.active.indices.get(k), 1);
             let goes = is_below(&core.active.ints, &core.active.indices, k, bound, value);
             repeat(routines, core, k, value, goes, body, may)
         }
         Held::Downward { k, body } => {
-            let value = one_less(core.active.indices.get(k));
+            let value = difference(core.active.indices.get(k), 1);
             let goes = is_natural(&core.active.indices, k, value);
             repeat(routines, core, k, value, goes, body, may)
         }

@@ -3,8 +3,7 @@ ghost use Rattle.loop_tree.specs.Lines.{lines_of};
 ghost use Rattle.loop_tree.specs.Machine.{exits, exit_of, rest_of, first_exit};
 ghost use Rattle.loop_machine.specs.Exits.{opened, passed, first_exit_of, table_of};
 
-use crate::stack::Stack;
-use loop_tree::{CodeLine, Function, Letter};
+use loop_tree::{CodeLine, Function, Letter, Stack};
 use sqlite_items::Items;
 use std::alloc::{AllocError, Global};
 use std::marker::Model;
@@ -54,6 +53,13 @@ impl Routine {
             lines,
             exits,
         })
+    }
+
+    /// The lines, the last of which closes the function's brace.
+    pub fn lines(&self) -> &[CodeLine]
+        ensures { result.now ≡ lines_of self.now }
+    {
+        self.lines.as_slice()
     }
 
     /// The letters of the parameters.

@@ -12,8 +12,8 @@ use crate::routine::Routine;
 use crate::state::{Core, Move};
 use crate::values::{atom, block, holds, int_value, rest, text, text_value};
 use a95_base::{Bytes, Scalar, wrap32};
-use loop_tree::{Atom, BlockRow, IntValue, Operator, RecordRow, Reference, TextValue};
-use loop_values::{Link, operation};
+use loop_tree::{Atom, BlockRow, IntValue, RecordRow, Reference, TextValue};
+use loop_values::Link;
 use record_io::{Looked, after_record, look};
 
 /// `iN = f_take(A);`
@@ -41,10 +41,10 @@ fn take(routines: &[Routine], core: &mut Core, n: u32, comma: bool, may: bool) -
     }
 }
 
-/// `iN = ..;`, whatever stands on the right.
+/// `iN = ..;`
 #[inline(never)]
 #[tactic(auto, unfolding(loop_tree::specs::Machine::int_line))]
-fn any_int_row(routines: &[Routine], core: &mut Core, n: u32, value: &IntValue, may: bool) -> Move
+pub fn int_row(routines: &[Routine], core: &mut Core, n: u32, value: &IntValue, may: bool) -> Move
     ensures { Did (int_line (shown routines.now core.old) n value.now) may routines.now core.old core.new result }
 {
     match value {
@@ -78,71 +78,6 @@ fn any_int_row(routines: &[Routine], core: &mut Core, n: u32, value: &IntValue, 
                 Move::Stuck
             }
         },
-    }
-}
-
-/// `iN = A op A;`
-#[tactic(auto, unfolding(loop_tree::specs::Machine::int_line, loop_tree::specs::Values::int_value))]
-fn operate(
-    routines: &[Routine],
-    core: &mut Core,
-    n: u32,
-    a: Atom,
-    op: Operator,
-    b: Atom,
-    may: bool,
-) -> Move
-    ensures { Did (int_line (shown routines.now core.old) n (IntValue.Operation a op b)) may routines.now core.old core.new result }
-{
-    let _ = routines;
-    let _ = may;
-    let x = atom(&core.active.ints, &core.active.indices, a);
-    let y = atom(&core.active.ints, &core.active.indices, b);
-    match operation(op, x, y) {
-        Ok(found) => {
-            match core.active.ints.set(n, found) {
-                Ok(()) => Move::Quiet,
-                Err(_) => Move::Memory,
-            }
-        }
-        Err(why) => {
-            core.why = why;
-            Move::Stuck
-        }
-    }
-}
-
-/// `iN = bN[A];`
-#[tactic(auto, unfolding(loop_tree::specs::Machine::int_line, loop_tree::specs::Values::int_value))]
-fn load(routines: &[Routine], core: &mut Core, n: u32, m: u32, a: Atom, may: bool) -> Move
-    ensures { Did (int_line (shown routines.now core.old) n (IntValue.Cell m a)) may routines.now core.old core.new result }
-{
-    let _ = routines;
-    let _ = may;
-    let at = atom(&core.active.ints, &core.active.indices, a);
-    match core.blocks.int_cell(core.active.int_blocks.get(m), at) {
-        Ok(found) => {
-            match core.active.ints.set(n, found) {
-                Ok(()) => Move::Quiet,
-                Err(_) => Move::Memory,
-            }
-        }
-        Err(why) => {
-            core.why = why;
-            Move::Stuck
-        }
-    }
-}
-
-/// `iN = ..;`. What loops over arrays are made of comes first, since a function pays at its entry for the locals of
-/// all its arms.
-pub fn int_row(routines: &[Routine], core: &mut Core, n: u32, value: &IntValue, may: bool) -> Move
-    ensures { Did (int_line (shown routines.now core.old) n value.now) may routines.now core.old core.new result }
-{
-    match value {
-        IntValue::Operation(a, op, b) => operate(routines, core, n, *a, *op, *b, may),
-        IntValue::Cell(m, a) => load(routines, core, n, *m, *a, may),
-        _ => any_int_row(routines, core, n, value, may),
     }
 }
 
@@ -357,35 +292,19 @@ fn put(routines: &[Routine], core: &mut Core, value: &Scalar, may: bool) -> Move
     }
 }
 
-/// A row that makes, changes, names or frees a block. The one in loops over arrays comes first.
+/// A row that makes, changes, names or frees a block.
+#[inline(never)]
+#[tactic(auto, unfolding(loop_tree::specs::Machine::block_line))]
 pub fn block_row(routines: &[Routine], core: &mut Core, row: &BlockRow, may: bool) -> Move
     ensures { Did (block_line (shown routines.now core.old) row.now) may routines.now core.old core.new result }
 {
     match row {
-        BlockRow::StoreInt(n, i, a) => store(routines, core, *n, *i, *a, may),
-        _ => any_block_row(routines, core, row, may),
-    }
-}
-
-/// `bN[A] = A;`
-#[tactic(auto, unfolding(loop_tree::specs::Machine::block_line))]
-fn store(routines: &[Routine], core: &mut Core, n: u32, i: Atom, a: Atom, may: bool) -> Move
-    ensures { Did (block_line (shown routines.now core.old) (BlockRow.StoreInt n i a)) may routines.now core.old core.new result }
-{
-    let at = atom(&core.active.ints, &core.active.indices, i);
-    let value = atom(&core.active.ints, &core.active.indices, a);
-    let link = core.active.int_blocks.get(n);
-    store_int(routines, core, link, at, value, may)
-}
-
-/// The same, whatever the row is.
-#[inline(never)]
-#[tactic(auto, unfolding(loop_tree::specs::Machine::block_line))]
-fn any_block_row(routines: &[Routine], core: &mut Core, row: &BlockRow, may: bool) -> Move
-    ensures { Did (block_line (shown routines.now core.old) row.now) may routines.now core.old core.new result }
-{
-    match row {
-        BlockRow::StoreInt(n, i, a) => store(routines, core, *n, *i, *a, may),
+        BlockRow::StoreInt(n, i, a) => {
+            let at = atom(&core.active.ints, &core.active.indices, *i);
+            let value = atom(&core.active.ints, &core.active.indices, *a);
+            let link = core.active.int_blocks.get(*n);
+            store_int(routines, core, link, at, value, may)
+        }
         BlockRow::StoreText(n, i, t) => {
             let at = atom(&core.active.ints, &core.active.indices, *i);
             let Ok(value) = Bytes::from_slice(core.alloc, text(&core.active.texts, t)) else {

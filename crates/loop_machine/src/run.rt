@@ -7,6 +7,8 @@ ghost use Rattle.io_edge.specs.Known.{AppendsFront};
 ghost use Rattle.loop_machine.specs.Shown.{shown};
 ghost use Rattle.loop_machine.specs.Ran.{Passes, CameTo, RanTo};
 
+use crate::flow::lines_at;
+use crate::quick::{next_row, next_turn};
 use crate::routine::Routine;
 use crate::state::{Came, Core, Move};
 use crate::step::step;
@@ -73,20 +75,30 @@ fn pass<K: Sink>(routines: &[Routine], core: &mut Core, may: bool, sink: &mut K)
 }
 
 /// Steps up to the next turn, or to what ends or holds up the run.
+#[inline(always)]
 fn advance<K: Sink>(routines: &[Routine], core: &mut Core, may: bool, sink: &mut K) -> Came
     ensures came { CameTo routines.now (shown routines.now core.old) (shown routines.now core.new) may result (K.written sink.old) (K.written sink.new) }
     ensures later { K.faults sink.old ≤ K.faults sink.new }
     ensures counted { result ≡ Came.WriteFault → Rose (K.faults sink.old) (K.faults sink.new) }
     ensures same { result ≢ Came.WriteFault → K.faults sink.new ≡ K.faults sink.old }
 {
+    let mut lines = lines_at(routines, core.active.routine);
     loop {
+        if next_row(routines, lines, core) {
+            continue;
+        }
+        if next_turn(routines, lines, core, may) {
+            return Came::Turn;
+        }
         if let Some(came) = pass(routines, core, may, sink) {
             return came;
         }
+        lines = lines_at(routines, core.active.routine);
     }
 }
 
 /// Steps with so many turns. What comes of it is never a turn.
+#[inline(never)]
 pub fn go<K: Sink>(routines: &[Routine], core: &mut Core, turns: u128, sink: &mut K) -> Came
     ensures came { RanTo routines.now (shown routines.now core.old) (shown routines.now core.new) turns result (K.written sink.old) (K.written sink.new) }
     ensures later { K.faults sink.old ≤ K.faults sink.new }

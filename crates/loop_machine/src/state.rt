@@ -1,6 +1,5 @@
-use crate::stack::Stack;
 use a95_base::FaultKind;
-use loop_tree::Atom;
+use loop_tree::{Atom, Stack};
 use loop_values::{Blocks, Links, Numbers, Words};
 use record_io::Record;
 use sqlite_items::Items;

@@ -2,7 +2,7 @@
 ghost use Rattle.std.specs.Prelude.{◌≡◌, pos, length, drop, IfOk};
 ghost use Rattle.record_io.specs.Looked.{reading};
 ghost use Rattle.a95_base.specs.Input.{next_value};
-ghost use Rattle.loop_tree.specs.Values.{atom_in, text_in, block_in, holds, truth, is_left, look_of, taken, int_value, text_value};
+ghost use Rattle.loop_tree.specs.Values.{atom_in, text_in, block_in, holds, is_left, look_of, taken, int_value, text_value};
 ghost use Rattle.loop_machine.specs.Shown.{shown};
 
 use crate::routine::Routine;
@@ -11,7 +11,7 @@ use a95_base::Bytes;
 use loop_tree::{Atom, IntValue, Reference, TextAtom, TextValue};
 use loop_values::{
     Link, Links, Numbers, Words, char, code, compare, fit, index, join, left, operation, over,
-    power, right, sub, trim, wrap, xor,
+    power, right, sub, trim, truth, wrap, xor,
 };
 use record_io::{Looked, look};
 use std::alloc::{AllocError, Global};
@@ -52,12 +52,6 @@ pub fn holds(z: i64) -> bool
     ensures { result ≡ holds z }
 {
     z != 0
-}
-
-fn truth(b: bool) -> i64
-    ensures { result ≡ truth b }
-{
-    if b { 1 } else { 0 }
 }
 
 /// The input that is left.

@@ -1,11 +1,35 @@
 //! The built-ins on integers.
-ghost use Rattle.std.specs.Prelude.{◌≡◌};
-ghost use Rattle.std.specs.Int.{w64, int_bit_xor};
+ghost use Rattle.std.specs.Prelude.{◌≡◌, ◌+ℤ◌, ◌-ℤ◌, ◌*ℤ◌};
+ghost use Rattle.std.specs.Int.{w64, int_wrap, int_bit_xor};
 ghost use Rattle.a95_base.specs.Integer.{wrapped};
 ghost use Rattle.loop_tree.specs.Values.{operation, power, quotient, remainder, truth};
 
 use a95_base::wrap32;
 use loop_tree::Operator;
+
+/// What is left of the sum in 64 bits.
+#[inline]
+pub fn sum(x: i64, y: i64) -> i64
+    ensures { result ≡ int_wrap w64 (x +ℤ y) }
+{
+    x.wrapping_add(y)
+}
+
+/// What is left of the difference in 64 bits.
+#[inline]
+pub fn difference(x: i64, y: i64) -> i64
+    ensures { result ≡ int_wrap w64 (x -ℤ y) }
+{
+    x.wrapping_sub(y)
+}
+
+/// What is left of the product in 64 bits.
+#[inline]
+pub fn product(x: i64, y: i64) -> i64
+    ensures { result ≡ int_wrap w64 (x *ℤ y) }
+{
+    x.wrapping_mul(y)
+}
 
 /// What an operator gives. Arithmetic wraps at 64 bits, and division cuts off toward 0. Err(3): the divisor is 0.
 #[tactic(auto, unfolding(loop_tree::specs::Values::operation))]
@@ -13,9 +37,9 @@ pub fn operation(op: Operator, x: i64, y: i64) -> Result<i64, u8>
     ensures { result ≡ operation op x y }
 {
     match op {
-        Operator::Add => Ok(x.wrapping_add(y)),
-        Operator::Subtract => Ok(x.wrapping_sub(y)),
-        Operator::Multiply => Ok(x.wrapping_mul(y)),
+        Operator::Add => Ok(sum(x, y)),
+        Operator::Subtract => Ok(difference(x, y)),
+        Operator::Multiply => Ok(product(x, y)),
         Operator::Divide => quotient(x, y),
         Operator::Remainder => remainder(x, y),
         Operator::Less => Ok(truth(x < y)),
@@ -45,7 +69,8 @@ fn remainder(x: i64, y: i64) -> Result<i64, u8>
     Ok(x.wrapping_rem(y))
 }
 
-fn truth(b: bool) -> i64
+/// 1 where it holds, else 0.
+pub fn truth(b: bool) -> i64
     ensures { result ≡ truth b }
 {
     i64::from(b)

@@ -11,7 +11,7 @@ mod texts;
 mod variables;
 
 pub use blocks::Blocks;
-pub use integers::{operation, power, wrap, xor};
+pub use integers::{difference, operation, power, product, sum, truth, wrap, xor};
 pub use link::Link;
 pub use texts::{char, code, compare, fit, index, join, left, over, right, sub, trim};
 pub use variables::{Links, Numbers, Words};

@@ -94,7 +94,7 @@ impl Slot {
         ensures stays { OnErr result (self.new ≡ self.old) }
     {
         match &mut self.held {
-            Held::Ints(cells) => write_int(cells, i, value),
+            Held::Ints(cells) => write(cells, i, value),
             _ => Err(2),
         }
     }
@@ -105,7 +105,7 @@ impl Slot {
         ensures stays { OnErr result (self.new ≡ self.old) }
     {
         match &mut self.held {
-            Held::Texts(cells) => write_text(cells, i, value),
+            Held::Texts(cells) => write(cells, i, value),
             _ => Err(2),
         }
     }
@@ -158,23 +158,7 @@ fn read_text(cells: &[Bytes], i: i64) -> Result<&[u8], u8>
     }
 }
 
-fn write_int(cells: &mut [i64], i: i64, value: i64) -> Result<(), u8>
-    ensures ok { OnOk result (stored cells.old i value ≡ Ok cells.new) }
-    ensures err { IfErr result (λ why. stored cells.old i value ≡ Err why) }
-    ensures stays { OnErr result (cells.new ≡ cells.old) }
-{
-    if i < 0 {
-        return Err(1);
-    }
-    let place = i as usize;
-    if place >= cells.len() {
-        return Err(1);
-    }
-    cells[place] = value;
-    Ok(())
-}
-
-fn write_text(cells: &mut [Bytes], i: i64, value: Bytes) -> Result<(), u8>
+fn write<T: Drop>(cells: &mut [T], i: i64, value: T) -> Result<(), u8>
     ensures ok { OnOk result (stored cells.old i value ≡ Ok cells.new) }
     ensures err { IfErr result (λ why. stored cells.old i value ≡ Err why) }
     ensures stays { OnErr result (cells.new ≡ cells.old) }

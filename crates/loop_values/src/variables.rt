@@ -1,5 +1,5 @@
 //! The variables of a call, one container for each kind of value.
-ghost use Rattle.std.specs.Prelude.{◌≡◌, [], ◌∷◌, ◌++◌, length, pos, None, OnOk, OnErr};
+ghost use Rattle.std.specs.Prelude.{◌≡◌, [], ◌∷◌, ◌++◌, pos, None, OnOk, OnErr};
 ghost use Rattle.loop_tree.specs.State.{with_at};
 ghost use Rattle.loop_tree.specs.Values.{number_at, text_at, block_at};
 
@@ -86,13 +86,6 @@ impl Numbers {
     {
         self.table.push(value)
     }
-
-    /// One more than the greatest number of a variable that was set.
-    pub fn len(&self) -> usize
-        ensures { result ≡ length self.now }
-    {
-        self.table.len()
-    }
 }
 
 /// The variables `sN` of a call. Contracts see the list of their texts.
@@ -148,13 +141,6 @@ impl Words {
     {
         self.table.push(value)
     }
-
-    /// One more than the greatest number of a variable that was set.
-    pub fn len(&self) -> usize
-        ensures { result ≡ length self.now }
-    {
-        self.table.len()
-    }
 }
 
 /// The variables `bN`, or `cN`, of a call. Contracts see the list of the numbers of their blocks.
@@ -209,12 +195,5 @@ impl Links {
         ensures err { OnErr result (self.new ≡ self.old) }
     {
         self.table.push(value)
-    }
-
-    /// One more than the greatest number of a variable that was set.
-    pub fn len(&self) -> usize
-        ensures { result ≡ length self.now }
-    {
-        self.table.len()
     }
 }
