@@ -1,202 +1,228 @@
 //! What `build` answers on sources, words and failing devices.
-use f95a_core::{Status, code, f95a};
-use io_edge::{CleanShelf, CleanSink, CleanSource, MemoryShelf, MemorySink, MemorySource};
+use crate::command_lines::{
+    Came, Failing, carried_out, first_no_usage, first_not_failed, first_not_refused, over_failing,
+};
+use f95a_core::{Status, code};
 use std::alloc::{AllocError, Global};
 use std::test::Fail;
 
-/// What a command line comes to.
-#[derive(Drop)]
-struct Came {
-    code: u8,
-    out: Vec<u8>,
-    notes: Vec<u8>,
-}
+const ACCEPTED: [&str; 5] = [
+    "program p; integer :: a(3); a = 2; print *, a; end",
+    "PROGRAM p\nInteger::a(3),B(3)\na=1+2*b-A*a\nprint*,A,b\n\tend\t\n;;\n",
+    "program p\ninteger :: a(0)\ninteger :: z_9(16777216)\na = 007\nprint *, a, a\nend",
+    "program a\ninteger :: a(1)\na = 2147483647 + 1\nend\n",
+    "program p;end",
+];
 
-fn words_of(alloc: Global, words: &[&str]) -> Result<Vec<String>, AllocError> {
-    let mut all = Vec::new(alloc);
-    for word in words {
-        all.push(String::from_str(alloc, word)?)?;
-    }
-    Ok(all)
-}
-
-/// The words, with this source as every file.
-fn carried_out(alloc: Global, words: &[&str], source: &[u8]) -> Result<Came, AllocError> {
-    let words = words_of(alloc, words)?;
-    let mut shelf = CleanShelf::new(Vec::from_slice(alloc, source)?);
-    let mut input = CleanSource::new(Vec::new(alloc));
-    let mut out = CleanSink::new(alloc);
-    let mut notes = CleanSink::new(alloc);
-    let status = f95a(
-        alloc,
-        words.as_slice(),
-        &mut shelf,
-        &mut input,
-        &mut out,
-        &mut notes,
-    );
-    Ok(Came {
-        code: code(&status),
-        out: Vec::from_slice(alloc, out.written())?,
-        notes: Vec::from_slice(alloc, notes.written())?,
-    })
+/// Whether the source is built, with no note.
+fn is_built(alloc: Global, source: &str) -> Result<bool, AllocError> {
+    let came = carried_out(alloc, &["build", "p.f95"], source.as_bytes(), b"")?;
+    let out = came.out.as_slice();
+    Ok(
+        came.code == 0
+            && came.notes.is_empty()
+            && out.starts_with(b"/* LoopC 1 */\nvoid f0() {\n")
+            && out.ends_with(b"}\n"),
+    )
 }
 
 #[test]
 fn accepted_sources_are_built(rt: HostRuntime) -> Result<(), Fail> {
-    let sources = [
-        "program p; integer :: a(3); a = 2; print *, a; end",
-        "PROGRAM p\nInteger::a(3),B(3)\na=1+2*b-A*a\nprint*,A,b\n\tend\t\n;;\n",
-        "program p\ninteger :: a(0)\ninteger :: z_9(16777216)\na = 007\nprint *, a, a\nend",
-        "program a\ninteger :: a(1)\na = 2147483647 + 1\nend\n",
-        "program p;end",
-    ];
-    for source in sources {
-        let came = carried_out(rt.alloc(), &["build", "p.f95"], source.as_bytes())?;
-        assert_eq!(rt; came.code, 0, "{source}");
-        assert!(rt; came.notes.is_empty(), "{source}");
-        assert!(rt;
-            came.out
-                .as_slice()
-                .starts_with(b"/* LoopC 1 */\nvoid f0() {\n"),
-            "{source}"
-        );
-        assert!(rt; came.out.as_slice().ends_with(b"}\n"), "{source}");
+    for source in &ACCEPTED {
+        assert!(rt; is_built(rt.alloc(), *source)?, "{source}");
     }
     Ok(())
 }
+
+const FORM: &str = "f95a: refused: phase 3, line 1, rule P47\n";
+
+const REFUSED: [(&str, &str); 20] = [
+    (
+        "program p\nx = 1\nend\n",
+        "f95a: refused: phase 4, line 2, rule P19\n",
+    ),
+    (
+        "program p; integer :: a(2)\n\na = 1\nprint *, a, b; c = 1\nend",
+        "f95a: refused: phase 4, line 4, rule P19\n",
+    ),
+    ("", FORM),
+    ("program p", FORM),
+    ("program p; end; end", FORM),
+    ("programp; end", FORM),
+    ("program end; end", FORM),
+    ("program p; integer : : a(2); end", FORM),
+    ("program p; integer :: a(2), a(2); end", FORM),
+    ("program p; integer :: a(2), b(3); a = b; end", FORM),
+    ("program p; integer :: a(16777217); end", FORM),
+    ("program p; integer :: a(2); a = 2147483648; end", FORM),
+    ("program p; integer :: a(2); a = -1; end", FORM),
+    ("program p; integer :: a(2); a = 1 ** 2; end", FORM),
+    (
+        "program p; integer :: a(2); a = 1; integer :: b(2); end",
+        FORM,
+    ),
+    (
+        "program p; integer :: a2345678901234567890123456789012(2); end",
+        FORM,
+    ),
+    ("program p\r\nend\r\n", FORM),
+    ("program p\0; end", FORM),
+    ("program p ! comment\nend", FORM),
+    ("program p; integer :: a(2); x = a + ; end", FORM),
+];
 
 #[test]
 fn other_sources_are_refused(rt: HostRuntime) -> Result<(), Fail> {
-    let form = "f95a: refused: phase 3, line 1, rule P47\n";
-    let cases = [
-        (
-            "program p\nx = 1\nend\n",
-            "f95a: refused: phase 4, line 2, rule P19\n",
-        ),
-        (
-            "program p; integer :: a(2)\n\na = 1\nprint *, a, b; c = 1\nend",
-            "f95a: refused: phase 4, line 4, rule P19\n",
-        ),
-        ("", form),
-        ("program p", form),
-        ("program p; end; end", form),
-        ("programp; end", form),
-        ("program end; end", form),
-        ("program p; integer : : a(2); end", form),
-        ("program p; integer :: a(2), a(2); end", form),
-        ("program p; integer :: a(2), b(3); a = b; end", form),
-        ("program p; integer :: a(16777217); end", form),
-        ("program p; integer :: a(2); a = 2147483648; end", form),
-        ("program p; integer :: a(2); a = -1; end", form),
-        ("program p; integer :: a(2); a = 1 ** 2; end", form),
-        (
-            "program p; integer :: a(2); a = 1; integer :: b(2); end",
-            form,
-        ),
-        (
-            "program p; integer :: a2345678901234567890123456789012(2); end",
-            form,
-        ),
-        ("program p\r\nend\r\n", form),
-        ("program p\0; end", form),
-        ("program p ! comment\nend", form),
-        ("program p; integer :: a(2); x = a + ; end", form),
-    ];
-    for (source, note) in cases {
-        let came = carried_out(rt.alloc(), &["build", "p.f95"], source.as_bytes())?;
-        assert_eq!(rt; came.code, 1, "{source}");
-        assert!(rt; came.notes.as_slice() == note.as_bytes(), "{source}");
-        assert!(rt; came.out.is_empty(), "{source}");
-    }
+    assert_eq!(rt;
+        first_not_refused(rt.alloc(), &["build", "p.f95"], 1, &REFUSED)?,
+        None
+    );
     Ok(())
 }
+
+const OTHER_WORDS: [&[&str]; 6] = [
+    &[],
+    &["build"],
+    &["build", "a", "b"],
+    &["Run", "a"],
+    &["Build", "a"],
+    &["a", "build"],
+];
 
 #[test]
 fn other_words_are_usage(rt: HostRuntime) -> Result<(), Fail> {
-    let lines: [&[&str]; 6] = [
-        &[],
-        &["build"],
-        &["build", "a", "b"],
-        &["Run", "a"],
-        &["Build", "a"],
-        &["a", "build"],
-    ];
-    for words in lines {
-        let came = carried_out(rt.alloc(), words, b"program p; end")?;
-        assert_eq!(rt; came.code, 2);
-        assert!(rt; came.notes.as_slice() == b"f95a: usage\n".as_slice());
-        assert!(rt; came.out.is_empty());
-    }
+    assert_eq!(rt;
+        first_no_usage(rt.alloc(), &OTHER_WORDS, b"program p; end")?,
+        None
+    );
     Ok(())
 }
 
-/// Row 1 over devices of which some calls fail.
-fn failing(alloc: Global, loads: &[u64], puts: &[u64], told: &[u64]) -> Result<Came, AllocError> {
-    let words = words_of(alloc, &["build", "p.f95"])?;
-    let mut files = Vec::new(alloc);
-    files.push((
-        String::from_str(alloc, "p.f95")?,
-        Vec::from_slice(alloc, b"program p; integer :: a(3); a = 2; print *, a; end")?,
-    ))?;
-    let mut shelf = MemoryShelf::new(alloc, files, Vec::from_slice(alloc, loads)?);
-    let mut input = MemorySource::new(Vec::new(alloc), 1, Vec::new(alloc));
-    let mut out = MemorySink::new(alloc, Vec::from_slice(alloc, puts)?, 3);
-    let mut notes = MemorySink::new(alloc, Vec::from_slice(alloc, told)?, 5);
-    let status = f95a(
-        alloc,
-        words.as_slice(),
-        &mut shelf,
-        &mut input,
-        &mut out,
-        &mut notes,
-    );
-    Ok(Came {
-        code: code(&status),
-        out: Vec::from_slice(alloc, out.written())?,
-        notes: Vec::from_slice(alloc, notes.written())?,
-    })
-}
+/// Calls that fail; the exit code, the output and the notes.
+const FAILING: [(Failing, u8, &str, &str); 4] = [
+    (
+        Failing {
+            loads: &[1],
+            takes: &[],
+            puts: &[],
+            told: &[],
+        },
+        8,
+        "",
+        "f95a: read fault\n",
+    ),
+    (
+        Failing {
+            loads: &[],
+            takes: &[],
+            puts: &[1],
+            told: &[],
+        },
+        9,
+        "/* ",
+        "f95a: write fault\n",
+    ),
+    (
+        Failing {
+            loads: &[1],
+            takes: &[],
+            puts: &[],
+            told: &[1],
+        },
+        9,
+        "",
+        "f95a:",
+    ),
+    (
+        Failing {
+            loads: &[],
+            takes: &[],
+            puts: &[1],
+            told: &[1],
+        },
+        9,
+        "/* ",
+        "f95a:",
+    ),
+];
+
+const SHORT: &[u8] = b"program p; integer :: a(3); a = 2; print *, a; end";
 
 #[test]
 fn failing_devices_are_told(rt: HostRuntime) -> Result<(), Fail> {
-    let load = failing(rt.alloc(), &[1], &[], &[])?;
-    assert_eq!(rt; load.code, 8);
-    assert!(rt; load.notes.as_slice() == b"f95a: read fault\n".as_slice());
-    assert!(rt; load.out.is_empty());
-
-    let put = failing(rt.alloc(), &[], &[1], &[])?;
-    assert_eq!(rt; put.code, 9);
-    assert!(rt; put.notes.as_slice() == b"f95a: write fault\n".as_slice());
-    assert!(rt; put.out.as_slice() == b"/* ".as_slice());
-
-    let note = failing(rt.alloc(), &[1], &[], &[1])?;
-    assert_eq!(rt; note.code, 9);
-    assert!(rt; note.notes.as_slice() == b"f95a:".as_slice());
-
-    let both = failing(rt.alloc(), &[], &[1], &[1])?;
-    assert_eq!(rt; both.code, 9);
-    assert!(rt; both.notes.as_slice() == b"f95a:".as_slice());
-
-    let none = failing(rt.alloc(), &[2], &[2], &[1])?;
-    assert_eq!(rt; none.code, 0);
-    assert!(rt; none.notes.is_empty());
+    assert_eq!(rt;
+        first_not_failed(rt.alloc(), &["build", "p"], SHORT, b"", &FAILING)?,
+        None
+    );
     Ok(())
 }
 
+/// Calls that would fail, but come too late.
+const LATE: Failing = Failing {
+    loads: &[2],
+    takes: &[],
+    puts: &[2],
+    told: &[1],
+};
+
+#[test]
+fn what_fails_too_late_is_not_told(rt: HostRuntime) -> Result<(), Fail> {
+    let came = over_failing(rt.alloc(), &["build", "p"], SHORT, b"", LATE)?;
+    assert!(rt; came.code == 0 && came.notes.is_empty());
+    Ok(())
+}
+
+/// A source with so many assignments.
+fn assignments(alloc: Global, count: usize) -> Result<String, AllocError> {
+    let mut source = String::from_str(alloc, "program p\ninteger :: a(3), b(3)\n")?;
+    for _ in 0..count {
+        source.push_str("a = b * 2 + a\n")?;
+    }
+    source.push_str("print *, a\nend\n")?;
+    Ok(source)
+}
+
+/// Whether the put failed, and a front of the whole was written, longer than that put's piece.
+fn is_cut_off(whole: &Came, cut: &Came) -> bool {
+    let (whole, front) = (whole.out.as_slice(), cut.out.as_slice());
+    cut.is(9, front, "f95a: write fault\n")
+        && front.len() > 3
+        && front.len() < whole.len()
+        && whole.starts_with(front)
+        && whole.ends_with(b"}\n")
+}
+
+const SECOND_PUT: Failing = Failing {
+    loads: &[],
+    takes: &[],
+    puts: &[2],
+    told: &[],
+};
+
+#[test]
+fn a_long_text_is_cut_off_where_a_later_put_fails(rt: HostRuntime) -> Result<(), Fail> {
+    let source = assignments(rt.alloc(), 1000)?;
+    let words = ["build", "p"];
+    let whole = carried_out(rt.alloc(), &words, source.as_bytes(), b"")?;
+    assert!(rt; whole.code == 0);
+    let cut = over_failing(rt.alloc(), &words, source.as_bytes(), b"", SECOND_PUT)?;
+    assert!(rt; is_cut_off(&whole, &cut));
+    Ok(())
+}
+
+const CODES: [(Status, u8); 7] = [
+    (Status::Done, 0),
+    (Status::Usage, 2),
+    (Status::TurnLimit, 6),
+    (Status::InputTooLong, 7),
+    (Status::ReadFault, 8),
+    (Status::WriteFault, 9),
+    (Status::Memory, 10),
+];
+
 #[test]
 fn each_status_has_its_code(rt: HostRuntime) {
-    let statuses = [
-        Status::Done,
-        Status::Usage,
-        Status::TurnLimit,
-        Status::InputTooLong,
-        Status::ReadFault,
-        Status::WriteFault,
-        Status::Memory,
-    ];
-    let codes = [0, 2, 6, 7, 8, 9, 10];
-    for (status, want) in statuses.iter().zip(codes) {
-        assert_eq!(rt; code(status), want);
+    for (status, want) in &CODES {
+        assert_eq!(rt; code(status), *want);
     }
 }

@@ -1,0 +1,571 @@
+//! What the machine makes of LoopC: each row of the grammar, each stuck state, runs in parts, and sinks that fail.
+use a95_base::{FaultKind, Line};
+use io_edge::{MemorySink, Sink};
+use loop_machine::{End, Machine};
+use loop_text::{NoText, read};
+use std::alloc::{AllocError, Global};
+use std::test::Fail;
+
+const PLENTY: u128 = 1_000_000;
+
+/// The machine of a text, at its start.
+fn machine_of(alloc: Global, text: &[u8], input: &[u8]) -> Result<Machine, Fail> {
+    match read(alloc, text) {
+        Ok(program) => Ok(Machine::new(alloc, program, input.to_vec(alloc)?)?),
+        Err(NoText::At { .. }) => Err(Fail::new("no text")),
+        Err(NoText::Memory) => Err(Fail::new("out of memory")),
+    }
+}
+
+/// The text of a program: the lines of the main function, and the functions behind it.
+fn text_of(alloc: Global, main: &str, others: &str) -> Result<Vec<u8>, AllocError> {
+    let mut text = b"/* LoopC 1 */\nvoid f0() {\n".to_vec(alloc)?;
+    text.extend_from_slice(main.as_bytes())?;
+    text.extend_from_slice(b"}\n")?;
+    text.extend_from_slice(others.as_bytes())?;
+    Ok(text)
+}
+
+/// A run with so many turns more, what it comes to, and what is written then in all.
+#[derive(Clone, Copy)]
+struct Part {
+    turns: u128,
+    end: End,
+    written: &'static [u8],
+}
+
+fn is_as_told(machine: &mut Machine, sink: &mut MemorySink, part: Part) -> bool {
+    machine.run(part.turns, sink) == part.end && sink.written() == part.written
+}
+
+/// Whether the parts of a program's run come out as told, over a sink of which some puts fail, and how many did.
+fn goes(
+    alloc: Global,
+    text: &[u8],
+    input: &[u8],
+    failing: &[u64],
+    parts: &[Part],
+    faults: u64,
+) -> Result<bool, Fail> {
+    let mut machine = machine_of(alloc, text, input)?;
+    let mut sink = MemorySink::new(alloc, Vec::from_slice(alloc, failing)?, 2);
+    for part in parts {
+        if !is_as_told(&mut machine, &mut sink, *part) {
+            return Ok(false);
+        }
+    }
+    Ok(sink.faults() == faults)
+}
+
+/// Of programs' main functions, the first that doesn't come to its end with ample turns, having written this.
+fn first_wrong(
+    alloc: Global,
+    cases: &[(&'static str, End, &'static str)],
+    others: &str,
+    input: &str,
+) -> Result<Option<&'static str>, Fail> {
+    for (main, end, written) in cases {
+        let text = text_of(alloc, *main, others)?;
+        let whole = Part {
+            turns: PLENTY,
+            end: *end,
+            written: written.as_bytes(),
+        };
+        if !goes(alloc, text.as_slice(), input.as_bytes(), &[], &[whole], 0)? {
+            return Ok(Some(*main));
+        }
+    }
+    Ok(None)
+}
+
+/// The lines of a main function, what they come to, and what they write.
+const ROWS: [(&str, End, &str); 42] = [
+    // integers
+    (
+        "i1 = -7;\ni2 = i1;\nf_put_int(i2);\nf_record();\n",
+        End::Ended,
+        " -7\n",
+    ),
+    (
+        "i1 = 7 - 10;\nf_put_int(i1);\nf_record();\n",
+        End::Ended,
+        " -3\n",
+    ),
+    (
+        "i1 = 6 * -7;\nf_put_int(i1);\nf_record();\n",
+        End::Ended,
+        " -42\n",
+    ),
+    (
+        "i1 = -7 / 2;\ni2 = -7 % 2;\nf_put_int(i1);\nf_put_int(i2);\nf_record();\n",
+        End::Ended,
+        " -3 -1\n",
+    ),
+    (
+        "i1 = 1 < 2;\ni2 = 2 <= 1;\ni3 = 2 == 2;\ni4 = 2 != 2;\nf_put_int(i1);\nf_put_int(i2);\nf_put_int(i3);\nf_put_int(i4);\nf_record();\n",
+        End::Ended,
+        " 1 0 1 0\n",
+    ),
+    (
+        "i1 = 12 & 10;\ni2 = 12 | 10;\nf_put_int(i1);\nf_put_int(i2);\nf_record();\n",
+        End::Ended,
+        " 8 14\n",
+    ),
+    (
+        "i1 = 9223372036854775807 + 1;\ni2 = i1 < 0;\nf_put_int(i2);\nf_put_int(i1);\nf_record();\n",
+        End::Ended,
+        " 1 0\n",
+    ),
+    (
+        "i1 = f_wrap(2147483648);\ni2 = i1 < 0;\nf_put_int(i2);\nf_put_int(2147483648);\nf_record();\n",
+        End::Ended,
+        " 1 -2147483648\n",
+    ),
+    (
+        "i1 = f_pow(3, 4);\ni2 = f_pow(-2, 31);\nf_put_int(i1);\nf_put_int(i2);\nf_record();\n",
+        End::Ended,
+        " 81 -2147483648\n",
+    ),
+    (
+        "i1 = f_xor(12, 10);\nf_put_int(i1);\nf_record();\n",
+        End::Ended,
+        " 6\n",
+    ),
+    (
+        "s1 = \"abc\";\ni1 = f_len(s1);\ni2 = f_len(s2);\nf_put_int(i1);\nf_put_int(i2);\nf_record();\n",
+        End::Ended,
+        " 3 0\n",
+    ),
+    (
+        "i1 = f_index(\"hello\", \"l\");\ni2 = f_index(\"ab\", \"\");\ni3 = f_index(\"ab\", \"c\");\nf_put_int(i1);\nf_put_int(i2);\nf_put_int(i3);\nf_record();\n",
+        End::Ended,
+        " 3 1 0\n",
+    ),
+    (
+        "i1 = f_code(\"A\");\nf_put_int(i1);\nf_record();\n",
+        End::Ended,
+        " 65\n",
+    ),
+    (
+        "i1 = f_cmp(\"a\", \"a \");\ni2 = f_cmp(\"b\", \"a\");\ni3 = f_cmp(\"\", \"!\");\nf_put_int(i1);\nf_put_int(i2);\nf_put_int(i3);\nf_record();\n",
+        End::Ended,
+        " 0 1 -1\n",
+    ),
+    (
+        "b0 = f_new(4);\ni1 = f_size(b0);\ni2 = f_live(b0);\ni3 = f_live(b1);\nf_put_int(i1);\nf_put_int(i2);\nf_put_int(i3);\nf_record();\n",
+        End::Ended,
+        " 4 1 0\n",
+    ),
+    (
+        "i1 = f_depth();\nf_put_int(i1);\nf_record();\n",
+        End::Ended,
+        " 0\n",
+    ),
+    (
+        "b0 = f_temp(2);\nb0[1] = 5;\ni1 = b0[1];\ni2 = b0[0];\nf_put_int(i1);\nf_put_int(i2);\nf_record();\n",
+        End::Ended,
+        " 5 0\n",
+    ),
+    (
+        "f_put_log(0);\nf_put_log(-3);\nf_record();\n",
+        End::Ended,
+        " F T\n",
+    ),
+    (
+        "f_put_int(1);\nf_record();\nf_record();\nf_put_int(2);\n",
+        End::Ended,
+        " 1\n\n",
+    ),
+    (
+        "i7 = k3;\nf_put_int(i7);\nf_put_int(i4000000000);\nf_record();\n",
+        End::Ended,
+        " 0 0\n",
+    ),
+    // texts and blocks
+    (
+        "f_put_text(\"ab\");\nf_put_text(\"c\");\nf_put_int(1);\nf_put_text(\"d\");\nf_record();\n",
+        End::Ended,
+        " abc 1 d\n",
+    ),
+    (
+        "s1 = f_cat(\"ab\", \"cd\");\nf_put_text(s1);\nf_record();\n",
+        End::Ended,
+        " abcd\n",
+    ),
+    (
+        "s1 = f_sub(\"hello\", 2, 4);\ns2 = f_sub(s1, 3, 2);\nf_put_text(s1);\nf_put_text(s2);\nf_record();\n",
+        End::Ended,
+        " ell\n",
+    ),
+    (
+        "s1 = f_over(\"hello\", 2, \"XY\");\nf_put_text(s1);\nf_record();\n",
+        End::Ended,
+        " hXYlo\n",
+    ),
+    (
+        "s1 = f_fit(\"abc\", 5);\ns2 = f_fit(\"abc\", 2);\nf_put_text(s1);\nf_put_text(s2);\nf_record();\n",
+        End::Ended,
+        " abc  ab\n",
+    ),
+    (
+        "s1 = f_trim(\"ab  \");\nf_put_text(s1);\nf_put_text(\"|\");\nf_record();\n",
+        End::Ended,
+        " ab|\n",
+    ),
+    (
+        "s1 = f_left(\"  ab\");\nf_put_text(s1);\nf_put_text(\"|\");\nf_record();\n",
+        End::Ended,
+        " ab  |\n",
+    ),
+    (
+        "s1 = f_right(\"ab  \");\nf_put_text(s1);\nf_record();\n",
+        End::Ended,
+        "   ab\n",
+    ),
+    (
+        "s1 = f_chr(66);\nf_put_text(s1);\nf_record();\n",
+        End::Ended,
+        " B\n",
+    ),
+    (
+        "c0 = f_new_text(2, 3);\nc0[1] = \"xyz\";\ns1 = c0[1];\ns2 = c0[0];\nf_put_text(s1);\nf_put_text(s2);\nf_put_text(\"|\");\nf_record();\n",
+        End::Ended,
+        " xyz   |\n",
+    ),
+    (
+        "c0 = f_temp_text(1);\nc1 = f_copy_text(2);\ns1 = c0[0];\ni1 = f_len(s1);\ni2 = f_size(c1);\nf_put_int(i1);\nf_put_int(i2);\nf_record();\n",
+        End::Ended,
+        " 0 2\n",
+    ),
+    (
+        "c0 = f_new_text(1, 0);\nc1 = c0;\nc1[0] = \"q\";\nf_grow(c0, 1);\ni1 = f_size(c1);\ns1 = c0[0];\nf_put_int(i1);\nf_put_text(s1);\nf_free(c1);\ni2 = f_live(c0);\nf_put_int(i2);\nf_record();\n",
+        End::Ended,
+        " 2 q 0\n",
+    ),
+    (
+        "b0 = f_copy(2);\nb1 = b0;\nb2 = f_mark(1);\nb1[1] = 9;\nf_grow(b0, 2);\ni1 = b0[1];\ni2 = b0[3];\ni3 = f_size(b1);\nf_free(b1);\ni4 = f_live(b0);\ni5 = f_live(b2);\nf_put_int(i1);\nf_put_int(i2);\nf_put_int(i3);\nf_put_int(i4);\nf_put_int(i5);\nf_record();\n",
+        End::Ended,
+        " 9 0 4 0 1\n",
+    ),
+    // control
+    (
+        "if (1) {\nf_put_int(1);\n} else {\nf_put_int(2);\n}\nif (0) {\nf_put_int(3);\n} else {\nf_put_int(4);\n}\nif (0) {\nf_put_int(5);\n}\nf_record();\n",
+        End::Ended,
+        " 1 4\n",
+    ),
+    (
+        "for (k1 = 0; k1 < 3; k1 = k1 + 1) {\nf_put_int(k1);\n}\nf_put_int(k1);\nf_record();\n",
+        End::Ended,
+        " 0 1 2 3\n",
+    ),
+    (
+        "for (k1 = 3 - 1; k1 >= 0; k1 = k1 - 1) {\nf_put_int(k1);\n}\nf_put_int(k1);\nf_record();\n",
+        End::Ended,
+        " 2 1 0 -1\n",
+    ),
+    (
+        "for (k1 = 0; k1 < 0; k1 = k1 + 1) {\nf_put_int(7);\n}\nfor (k2 = 0; k2 < k2; k2 = k2 + 1) {\nf_put_int(8);\n}\nfor (k3 = 0 - 1; k3 >= 0; k3 = k3 - 1) {\nf_put_int(9);\n}\nf_record();\n",
+        End::Ended,
+        "\n",
+    ),
+    (
+        "while (1) {\ni1 = i1 + 1;\ni2 = i1 % 2;\nif (i2) {\ncontinue;\n}\ni3 = 5 < i1;\nif (i3) {\nif (i3) {\nbreak;\n} else {\nf_stop();\n}\n}\nf_put_int(i1);\n}\nf_put_text(\"end\");\nf_record();\n",
+        End::Ended,
+        " 2 4 end\n",
+    ),
+    (
+        "for (k1 = 0; k1 < 4; k1 = k1 + 1) {\nfor (k2 = 0; k2 < 4; k2 = k2 + 1) {\ni1 = k1 < k2;\nif (0) {\n} else {\nif (i1) {\nbreak;\n}\n}\nf_put_int(k2);\n}\n}\nf_record();\n",
+        End::Ended,
+        " 0 0 1 0 1 2 0 1 2 3\n",
+    ),
+    (
+        "f_put_int(1);\nf_record();\nreturn;\nf_put_int(2);\nf_record();\n",
+        End::Ended,
+        " 1\n",
+    ),
+    (
+        "if (1) {\nwhile (1) {\nf_put_int(1);\nf_record();\nf_stop();\n}\n}\n",
+        End::Ended,
+        " 1\n",
+    ),
+    (
+        "i0 = 2;\nfor (k1 = 0; k1 < i0; k1 = k1 + 1) {\ni0 = 4 - k1;\nf_put_int(k1);\n}\nf_record();\n",
+        End::Ended,
+        " 0 1 2\n",
+    ),
+];
+
+#[test]
+fn each_row_is_obeyed(rt: HostRuntime) -> Result<(), Fail> {
+    assert_eq!(rt; first_wrong(rt.alloc(), &ROWS, "", "")?, None);
+    Ok(())
+}
+
+const INPUT: [(&str, End, &str); 4] = [
+    (
+        "i1 = f_take(0);\ni2 = f_take(1);\ni3 = f_look(1);\nf_put_int(i1);\nf_put_int(i2);\nf_put_int(i3);\nf_record();\n",
+        End::Ended,
+        " 12 -5 2\n",
+    ),
+    (
+        "f_skip();\ni1 = f_take(0);\ni2 = f_look(1);\ni3 = f_more();\nf_put_int(i1);\nf_put_int(i2);\nf_put_int(i3);\nf_record();\n",
+        End::Ended,
+        " 7 1 1\n",
+    ),
+    (
+        "f_skip();\nf_skip();\nf_skip();\ni1 = f_more();\nf_put_int(i1);\nf_record();\n",
+        End::Ended,
+        " 0\n",
+    ),
+    (
+        "i1 = f_look(0);\ni2 = f_look(0);\ni3 = f_take(0);\nf_put_int(i1);\nf_put_int(i2);\nf_put_int(i3);\nf_record();\n",
+        End::Ended,
+        " 0 0 12\n",
+    ),
+];
+
+#[test]
+fn input_is_taken(rt: HostRuntime) -> Result<(), Fail> {
+    assert_eq!(rt;
+        first_wrong(rt.alloc(), &INPUT, "", "12 , -5 x\n7\n")?,
+        None
+    );
+    Ok(())
+}
+
+const FUNCTIONS: &str =
+    "void f1(i0, s1, b2, c3) {\ni4 = f_depth();\nb2[0] = i0;\nc3[0] = s1;\nb5 = f_new(1);\nb2 = b5;\nf_put_int(i4);\nf_put_int(i9);\ni0 = 100;\n}\nvoid f2(i0) {\ni1 = i0 < 1;\nif (i1) {\nreturn;\n}\nf_put_int(i0);\ni2 = i0 - 1;\nf2(i2);\n}\nvoid f3() {\nf_at(9);\nf_fault(2);\n}\nvoid f4(b0) {\n}\nvoid f5() {\nwhile (1) {\nf_stop();\n}\n}\n";
+
+const CALLS: [(&str, End, &str); 2] = [
+    (
+        "i0 = 7;\nb0 = f_new(1);\nc0 = f_new_text(1, 1);\nf1(i0, \"xy\", b0, c0);\ni1 = b0[0];\ns1 = c0[0];\nf_put_int(i0);\nf_put_int(i1);\nf_put_text(s1);\nf_record();\nf2(3);\nf_record();\n",
+        End::Ended,
+        " 1 0 7 7 xy\n 3 2 1\n",
+    ),
+    ("f5();\nf_put_int(1);\nf_record();\n", End::Ended, ""),
+];
+
+#[test]
+fn functions_are_called(rt: HostRuntime) -> Result<(), Fail> {
+    assert_eq!(rt; first_wrong(rt.alloc(), &CALLS, FUNCTIONS, "")?, None);
+    Ok(())
+}
+
+const FAULTS: [(&str, End, &str); 4] = [
+    (
+        "f_fault(1);\n",
+        End::Fault {
+            kind: FaultKind::ZeroDivide,
+            line: Line(0),
+        },
+        "",
+    ),
+    (
+        "f_at(3);\nf_at(4);\nf_fault(15);\n",
+        End::Fault {
+            kind: FaultKind::DummyShape,
+            line: Line(4),
+        },
+        "",
+    ),
+    (
+        "f_at(3);\nf3();\n",
+        End::Fault {
+            kind: FaultKind::Bounds,
+            line: Line(9),
+        },
+        "",
+    ),
+    (
+        "f_at(5);\nf2(0);\nf_fault(7);\n",
+        End::Fault {
+            kind: FaultKind::TooLarge,
+            line: Line(5),
+        },
+        "",
+    ),
+];
+
+#[test]
+fn a_fault_has_the_line_of_its_call(rt: HostRuntime) -> Result<(), Fail> {
+    assert_eq!(rt; first_wrong(rt.alloc(), &FAULTS, FUNCTIONS, "")?, None);
+    Ok(())
+}
+
+const STUCK: [(&str, End, &str); 30] = [
+    ("b0 = f_new(2);\ni1 = b0[2];\n", End::Stuck { why: 1 }, ""),
+    ("b0 = f_new(2);\nb0[-1] = 0;\n", End::Stuck { why: 1 }, ""),
+    (
+        "c0 = f_temp_text(0);\ns1 = c0[0];\n",
+        End::Stuck { why: 1 },
+        "",
+    ),
+    ("i1 = b0[0];\n", End::Stuck { why: 2 }, ""),
+    ("c0[0] = \"\";\n", End::Stuck { why: 2 }, ""),
+    (
+        "b0 = f_new(2);\nf_free(b0);\nb0[0] = 1;\n",
+        End::Stuck { why: 2 },
+        "",
+    ),
+    (
+        "b0 = f_new(2);\nb1 = b0;\nf_free(b0);\ni1 = f_size(b1);\n",
+        End::Stuck { why: 2 },
+        "",
+    ),
+    ("f_free(c0);\n", End::Stuck { why: 2 }, ""),
+    ("b0 = b1;\n", End::Stuck { why: 2 }, ""),
+    ("f4(b0);\n", End::Stuck { why: 2 }, ""),
+    ("i1 = 1 / 0;\n", End::Stuck { why: 3 }, ""),
+    ("i1 = 1 % i2;\n", End::Stuck { why: 3 }, ""),
+    ("f0();\n", End::Stuck { why: 4 }, ""),
+    ("f99();\n", End::Stuck { why: 4 }, ""),
+    ("f2();\n", End::Stuck { why: 4 }, ""),
+    ("f2(\"x\");\n", End::Stuck { why: 4 }, ""),
+    ("f2(1, 2);\n", End::Stuck { why: 4 }, ""),
+    ("b0 = f_new(-1);\n", End::Stuck { why: 5 }, ""),
+    ("b0 = f_temp(16777217);\n", End::Stuck { why: 5 }, ""),
+    ("c0 = f_new_text(1, 256);\n", End::Stuck { why: 5 }, ""),
+    (
+        "b0 = f_new(1);\nf_grow(b0, 16777216);\n",
+        End::Stuck { why: 5 },
+        "",
+    ),
+    (
+        "c0 = f_temp_text(1);\nf_grow(c0, -1);\n",
+        End::Stuck { why: 5 },
+        "",
+    ),
+    ("s1 = f_sub(\"abc\", 0, 1);\n", End::Stuck { why: 6 }, ""),
+    (
+        "s1 = f_over(\"abc\", 3, \"xy\");\n",
+        End::Stuck { why: 6 },
+        "",
+    ),
+    ("i1 = f_code(\"\");\n", End::Stuck { why: 6 }, ""),
+    ("s1 = f_chr(256);\n", End::Stuck { why: 7 }, ""),
+    ("i1 = f_take(0);\n", End::Stuck { why: 8 }, ""),
+    ("i1 = f_pow(2, -1);\n", End::Stuck { why: 9 }, ""),
+    // the least number where several hold
+    ("f2(b0, 1);\n", End::Stuck { why: 2 }, ""),
+    ("f99(b0);\n", End::Stuck { why: 2 }, ""),
+];
+
+#[test]
+fn each_stuck_state_has_its_number(rt: HostRuntime) -> Result<(), Fail> {
+    assert_eq!(rt; first_wrong(rt.alloc(), &STUCK, FUNCTIONS, "x")?, None);
+    Ok(())
+}
+
+const LOOP: &str =
+    "for (k1 = 0; k1 < 5; k1 = k1 + 1) {\nf_put_int(k1);\nf_record();\n}\nf2(1);\nf_record();\n";
+
+const WHOLE: &[u8] = b" 0\n 1\n 2\n 3\n 4\n 1\n";
+
+/// How much of it is written after so many turns.
+const WRITTEN_AFTER: [usize; 8] = [0, 3, 6, 9, 12, 15, 15, 18];
+
+/// A run with so many turns more, which are so many in all.
+fn part_of(more: usize, turns: usize) -> Part {
+    let length = WRITTEN_AFTER.get(turns).copied().unwrap_or(0);
+    Part {
+        turns: more as u128,
+        end: if turns < 7 {
+            End::TurnLimit
+        } else {
+            End::Ended
+        },
+        written: WHOLE.get(..length).unwrap_or(b""),
+    }
+}
+
+const REST: Part = Part {
+    turns: PLENTY,
+    end: End::Ended,
+    written: WHOLE,
+};
+
+/// Whether a run in two parts comes to what a run with all their turns comes to, and goes on as that does.
+fn parts_are_one_run(alloc: Global, first: usize, turns: usize) -> Result<bool, Fail> {
+    let text = text_of(alloc, LOOP, FUNCTIONS)?;
+    let parts = [
+        part_of(first, first),
+        part_of(turns.saturating_sub(first), turns),
+        // with no turn more nothing follows
+        part_of(0, turns),
+        REST,
+        REST,
+    ];
+    goes(alloc, text.as_slice(), b"", &[], &parts, 0)
+}
+
+#[test]
+fn parts_of_a_run_are_one_run(rt: HostRuntime) -> Result<(), Fail> {
+    for turns in 0..=7 {
+        // with so many turns at once, and in two parts
+        for first in 0..=turns {
+            assert!(rt;
+                parts_are_one_run(rt.alloc(), first, turns)?,
+                "{first} of {turns} turns"
+            );
+        }
+    }
+    Ok(())
+}
+
+const BROKEN: Part = Part {
+    turns: PLENTY,
+    end: End::WriteFault,
+    written: b" 0\n 1",
+};
+
+#[test]
+fn a_sink_that_fails_ends_the_run(rt: HostRuntime) -> Result<(), Fail> {
+    let text = text_of(rt.alloc(), LOOP, FUNCTIONS)?;
+    assert!(rt; goes(rt.alloc(), text.as_slice(), b"", &[2], &[BROKEN], 1)?);
+    assert!(rt; goes(rt.alloc(), text.as_slice(), b"", &[2], &[BROKEN, BROKEN], 1)?);
+    Ok(())
+}
+
+const ENDS: [(&str, End); 3] = [
+    (
+        "f_put_int(1);\nf_record();\nf_at(2);\nf_fault(1);\n",
+        End::Fault {
+            kind: FaultKind::ZeroDivide,
+            line: Line(2),
+        },
+    ),
+    (
+        "f_put_int(1);\nf_record();\ni1 = 1 / 0;\n",
+        End::Stuck { why: 3 },
+    ),
+    (
+        "f_put_int(1);\nf_record();\nf_put_int(2);\nf_stop();\n",
+        End::Ended,
+    ),
+];
+
+fn ends_twice(alloc: Global, main: &str, end: End) -> Result<bool, Fail> {
+    let text = text_of(alloc, main, "")?;
+    let written = b" 1\n";
+    let parts = [
+        Part {
+            turns: 0,
+            end,
+            written,
+        },
+        Part {
+            turns: 5,
+            end,
+            written,
+        },
+    ];
+    goes(alloc, text.as_slice(), b"", &[], &parts, 0)
+}
+
+#[test]
+fn an_end_is_answered_again(rt: HostRuntime) -> Result<(), Fail> {
+    for (main, end) in &ENDS {
+        assert!(rt; ends_twice(rt.alloc(), *main, *end)?, "{main}");
+    }
+    Ok(())
+}
