@@ -1,5 +1,5 @@
 -- What `run` answers, and what it leaves on its output and in its input.
-use Rattle.std.specs.Prelude.{◌⊎◌, ℕ, ◌≤◌, List, length, Option, ⊤}
+use Rattle.std.specs.Prelude.{◌⊎◌, ℕ, ◌+◌, ◌≤◌, List, length, Option, ⊤}
 use Rattle.std.specs.Io.KnownBytes.{Appends, Keeps, IsAtEnd}
 use Rattle.io_edge.specs.Known.{AppendsFront}
 use Rattle.loop_tree.specs.declared.tree.Function.{Function}
@@ -13,7 +13,7 @@ use Rattle.loop_machine.specs.Running.{Tells}
 use Rattle.f95a_core.specs.declared.status.Status.{Status}
 use Rattle.f95a_core.specs.declared.status.Status.TheVariants as status
 use Rattle.f95a_core.specs.Building.{IsTold}
-use Rattle.f95a_core.specs.Intake.{input_limit, IsTooLong}
+use Rattle.f95a_core.specs.Intake.{input_limit, Takes, TakesAtMost, IsTooLong}
 
 -- what a run is of: the bytes of the file and those of the input, where they are told, and the turns
 pub record Job : Type 0 where
@@ -92,11 +92,14 @@ Executed status.WriteFault program input turns old new = TellsFront program inpu
 Executed status.Memory program input turns old new = Keeps old new ⊎ TellsFront program input turns old new
 Executed other program input turns old new = ⊥
 
--- where the program was executed, nothing of the input is left; where the file is no text, the input is untouched
+-- Where the program was executed, nothing of the input is left; where the file is no text, the input is untouched. That it is too long
+-- shows at the first byte behind the limit, and no read comes after that byte. WriteFault and Memory can be a note's, whatever was before.
 abbrev pub InputAfter : Status → Option (List ℕ) → Option (List ℕ) → Type 0
 InputAfter status.Done old new = IsAtEnd new
 InputAfter (status.Fault kind line) old new = IsAtEnd new
 InputAfter (status.Stuck why) old new = IsAtEnd new
 InputAfter status.TurnLimit old new = IsAtEnd new
 InputAfter (status.TextRefused line) old new = Keeps old new
+InputAfter status.InputTooLong old new = Takes (input_limit + 1) old new
+InputAfter status.ReadFault old new = TakesAtMost input_limit old new
 InputAfter other old new = ⊤

@@ -1,11 +1,13 @@
 //! The top call.
-ghost use Rattle.std.specs.Prelude.{◌≡◌, ◌⊎◌, ℕ, List, ◌<◌, ◌≤◌, ◌^◌, length, map, string_bytes, is_some, true, Some, None, IfSome, IfOk, ◌≢◌};
+ghost use Rattle.std.specs.Prelude.{◌≡◌, ◌⊎◌, ℕ, ◌+◌, List, ◌<◌, ◌≤◌, ◌^◌, length, map, string_bytes, is_some, true, Some, None, IfSome, IfOk, ◌≢◌};
+ghost use Rattle.std.specs.Io.KnownBytes.{IsAtEnd};
 ghost use Rattle.f95a_core.specs.Status.{note};
 ghost use Rattle.f95a_core.specs.Building.{OnWritten};
 ghost use Rattle.f95a_core.specs.Lowered.{program_of};
 ghost use Rattle.io_edge.specs.Causes.{Rose};
 ghost use Rattle.rank_one.specs.Reading.{IsBroken, IsLeastBroken};
 ghost use Rattle.f95a_core.specs.Commands.{to_build, to_run, IsNoCommand, IsOperand};
+ghost use Rattle.f95a_core.specs.Intake.{input_limit, TakesAtMost};
 ghost use Rattle.f95a_core.specs.Running.{job, RunComesTo, InputAfter};
 ghost use Rattle.f95a_core.specs.Building.{Loaded, Builds, WritesWhole, WritesFront, ComesTo, ComesToAfterLoad, IsOfBuild, IfRefused, OutputAfter, NotesAfter};
 
@@ -117,6 +119,7 @@ fn tell<N: Sink>(alloc: Global, status: Status, notes: &mut N) -> Status
 /// program to `out`; `run NAME` and `run NAME --turns N` read the file of that name as such a text, take all of `input`, and
 /// execute the program, which writes its records to `out` and begins at most N turns, or 10^12. Each status but `Done`
 /// writes its note to `notes`.
+#[tactic(auto, using(crate::proofs::Taking::nothing_taken))]
 pub fn f95a<H: Shelf, S: Source, K: Sink, N: Sink>(
     alloc: Global,
     words: &[String],
@@ -142,9 +145,15 @@ pub fn f95a<H: Shelf, S: Source, K: Sink, N: Sink>(
     // What `run` answers and writes: what the execution of the text's program comes to, unless it is none.
     ensures run { IfSome (to_run (map string_bytes words.now)) (λ asked. RunComesTo result (job (H.file shelf.old asked.0) (S.left input.old) asked.1) (K.written out.old) (K.written out.new)) }
     ensures notes { NotesAfter result (N.faults notes.old) (N.faults notes.new) (N.written notes.old) (N.written notes.new) }
-    // The input is taken by `run` alone.
+    // The input is taken by `run` alone, and no more of it than shows that it is too long.
     ensures input { to_run (map string_bytes words.now) ≡ None → input.new ≡ input.old }
+    ensures front { TakesAtMost (input_limit + 1) (S.left input.old) (S.left input.new) }
     ensures taken { IfSome (to_run (map string_bytes words.now)) (λ asked. InputAfter result (S.left input.old) (S.left input.new)) }
+    // A file that can't be loaded leaves it alone.
+    ensures untouched { result ≡ Status.ReadFault → (input.new ≡ input.old) ⊎ Rose (S.faults input.old) (S.faults input.new) }
+    // All of it is taken before the output is touched, so also where the output fails.
+    ensures drained { IfSome (to_run (map string_bytes words.now)) (λ asked. IsAtEnd (S.left input.new) ⊎ (out.new ≡ out.old)) }
+    ensures drained_at_fault { IfSome (to_run (map string_bytes words.now)) (λ asked. result ≡ Status.WriteFault → IsAtEnd (S.left input.new) ⊎ Rose (N.faults notes.old) (N.faults notes.new)) }
 {
     if let Some(name) = file_to_build(words) {
         return tell(alloc, build(alloc, name, shelf, out), notes);

@@ -1,6 +1,6 @@
 //! The input, taken to its end.
-ghost use Rattle.std.specs.Prelude.{◌≤◌, MatchResult};
-ghost use Rattle.f95a_core.specs.Intake.{TakenAll, IntakeFails};
+ghost use Rattle.std.specs.Prelude.{◌+◌, ◌≤◌, MatchResult};
+ghost use Rattle.f95a_core.specs.Intake.{input_limit, TakesAtMost, TakenAll, IntakeFails};
 
 use io_edge::Source;
 use std::alloc::{AllocError, Global};
@@ -21,7 +21,8 @@ pub enum IntakeFault {
 
 /// All the bytes of an input that has no more than `INPUT_LIMIT`. One byte more is taken at most.
 pub fn take_all<S: Source>(alloc: Global, input: &mut S) -> Result<Vec<u8>, IntakeFault>
-    ensures taken { MatchResult result (λ bytes. TakenAll (S.left input.old) (S.left input.new) bytes.items) (λ fault. IntakeFails fault (S.left input.old) (S.faults input.old) (S.faults input.new)) }
+    ensures taken { MatchResult result (λ bytes. TakenAll (S.left input.old) (S.left input.new) bytes.items) (λ fault. IntakeFails fault (S.left input.old) (S.left input.new) (S.faults input.old) (S.faults input.new)) }
+    ensures front { TakesAtMost (input_limit + 1) (S.left input.old) (S.left input.new) }
     ensures later { S.faults input.old ≤ S.faults input.new }
 {
     let mut bytes = Vec::new(alloc);

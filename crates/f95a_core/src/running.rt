@@ -1,6 +1,8 @@
 //! The command `run`: reads a text, takes the input, and executes.
-ghost use Rattle.std.specs.Prelude.{◌≡◌, ◌⊎◌, ◌≤◌};
+ghost use Rattle.std.specs.Prelude.{◌≡◌, ◌⊎◌, ◌+◌, ◌≤◌};
+ghost use Rattle.std.specs.Io.KnownBytes.{IsAtEnd};
 ghost use Rattle.io_edge.specs.Causes.{Rose};
+ghost use Rattle.f95a_core.specs.Intake.{input_limit, TakesAtMost};
 ghost use Rattle.f95a_core.specs.Running.{job, RunComesTo, Executed, InputAfter, status_of};
 
 use crate::intake::{IntakeFault, take_all};
@@ -13,6 +15,7 @@ use loop_tree::{LoopProgram, some_outcome};
 use std::alloc::Global;
 
 /// Reads a file as the text of a program, takes all of the input, and executes the program on it.
+#[tactic(auto, using(crate::proofs::Taking::nothing_taken))]
 pub fn run<H: Shelf, S: Source, K: Sink>(
     alloc: Global,
     name: &str,
@@ -22,7 +25,11 @@ pub fn run<H: Shelf, S: Source, K: Sink>(
     out: &mut K,
 ) -> Status
     ensures comes { RunComesTo result (job (H.file shelf.old name.now) (S.left input.old) turns) (K.written out.old) (K.written out.new) }
+    ensures front { TakesAtMost (input_limit + 1) (S.left input.old) (S.left input.new) }
     ensures taken { InputAfter result (S.left input.old) (S.left input.new) }
+    ensures untouched { result ≡ Status.ReadFault → (input.new ≡ input.old) ⊎ Rose (S.faults input.old) (S.faults input.new) }
+    ensures drained { IsAtEnd (S.left input.new) ⊎ (out.new ≡ out.old) }
+    ensures drained_at_fault { result ≡ Status.WriteFault → IsAtEnd (S.left input.new) }
     ensures read { result ≡ Status.ReadFault → ((H.failed shelf.new ≡ name.now) × Rose (H.faults shelf.old) (H.faults shelf.new)) ⊎ Rose (S.faults input.old) (S.faults input.new) }
     ensures write { result ≡ Status.WriteFault → Rose (K.faults out.old) (K.faults out.new) }
     ensures out { K.faults out.old ≤ K.faults out.new }
