@@ -7,7 +7,7 @@ use Rattle.std.proofs.lemmas.List.{map-append, take_more, get_or_default, set-ge
 use Rattle.loop_tree.specs.State.{Cells, Block, cells_numbered, cells_or_stuck, cells_at, with_cells, without, made_before}
 use Rattle.loop_tree.specs.Values.{and_then, is_live}
 use Rattle.loop_tree.specs.Machine.{changed, freed}
-use Rattle.loop_values.specs.Heap.{with_made}
+use Rattle.loop_values.specs.Heap.{Heap, with_made}
 use Rattle.loop_values.specs.Slots.{Kept, block_of, living, is_living, IsRising, IsPlace, changed_slot, slot_cells, without_cells}
 
 -- ---- a number that no block has
@@ -92,10 +92,12 @@ pub rising_lower : (less low top : ℕ) (ks : List Kept) → IsRising low top ks
 rising_lower less low top [] h e = omega arith
 rising_lower less low top (k ∷ ks) h e = (omega (arith, h.0), h.1)
 
-pub rising_set : (low top : ℕ) (ks : List Kept) (i : ℕ) (new d : Kept) → IsRising low top ks → i < length ks → new.number ≡ (get_or ks i d).number → IsRising low top (set ks i new)
-rising_set low top [] i new d h below e = h
-rising_set low top (k ∷ ks) zero new d h below e = (subst (λ n. low ≤ n) (sym e) h.0, subst (λ n. IsRising (n + 1) top ks) (sym e) h.1)
-rising_set low top (k ∷ ks) (suc i) new d h below e = (h.0, rising_set (k.number + 1) top ks i new d h.1 (omega arith) e)
+pub rising_set : (low top : ℕ) (ks : List Kept) (i : ℕ) (k new : Kept) → IsRising low top ks → k ≡ get_or ks i k → new.number ≡ k.number → IsRising low top (set ks i new)
+rising_set low top [] i k new h is e = h
+rising_set low top (x ∷ ks) zero k new h is e =
+    let same : x.number ≡ new.number = sym (e ∙ ap (λ (s : Kept). s.number) is) in
+    (subst (λ n. low ≤ n) same h.0, subst (λ n. IsRising (n + 1) top ks) same h.1)
+rising_set low top (x ∷ ks) (suc i) k new h is e = (h.0, rising_set (x.number + 1) top ks i k new h.1 is e)
 
 pub rising_filter : (test : Kept → Bool) (low top : ℕ) (ks : List Kept) → IsRising low top ks → IsRising low top (filter test ks)
 rising_filter test low top [] h = h
@@ -281,11 +283,15 @@ change_all top ks at d f (Some old) rises below e =
     ≡ and_then (and_then r (λ new. Ok (record { number = (get_or ks at d).number; cells = Some new }))) (λ k. Ok (living (set ks at k))))
     [ Ok new ↦ ap Ok (with_cells_at 0 top ks at d old new rises below e) | Err why ↦ refl ]
 
-pub change_at : (top : ℕ) (ks : List Kept) (link : Option ℕ) (at : ℕ) (d : Kept) (f : Cells → Result Cells ℕ) → IsRising 0 top ks → IsPlace ks link at → at < length ks
-    → changed (living ks) link f ≡ and_then (changed_slot (get_or ks at d) f) (λ k. Ok (living (set ks at k)))
-change_at top ks link at d f rises place below =
-    ap (λ l. changed (living ks) l f) (place.found d below)
-    ∙ change_all top ks at d f (get_or ks at d).cells rises below refl
+-- what the blocks are after a change of the slot that a reference leads to
+pub changed_blocks : {h : Heap} {top : ℕ} {ks : List Kept} {link : Option ℕ} {at : ℕ} {k : Kept} (f : Cells → Result Cells ℕ) → record { blocks = living ks; made = top } ≡ h
+    → IsRising 0 top ks → IsPlace ks link at → at < length ks → k ≡ get_or ks at k
+    → changed h.blocks link f ≡ and_then (changed_slot k f) (λ new. Ok (living (set ks at new)))
+changed_blocks {h} {top} {ks} {link} {at} {k} f view rises place below is =
+    ap (λ (x : Heap). changed x.blocks link f) (sym view)
+    ∙ ap (λ l. changed (living ks) l f) (place.found k below)
+    ∙ change_all top ks at k f (get_or ks at k).cells rises below refl
+    ∙ ap (λ x. and_then (changed_slot x f) (λ new. Ok (living (set ks at new)))) (sym is)
 
 changed_cells_none : (bs : List Block) (link : Option ℕ) (f : Cells → Result Cells ℕ) → cells_at bs link ≡ Err 2 → changed bs link f ≡ Err 2
 changed_cells_none bs None f e = refl
@@ -293,19 +299,6 @@ changed_cells_none bs (Some n) f e = ap (λ r. and_then r (λ cells. and_then (f
 
 pub change_none : (ks : List Kept) (link : Option ℕ) (at : ℕ) (f : Cells → Result Cells ℕ) → IsPlace ks link at → length ks ≤ at → changed (living ks) link f ≡ Err 2
 change_none ks link at f place past = changed_cells_none (living ks) link f (place.none past)
-
--- a slot keeps its number
-changed_number : (k new : Kept) (f : Cells → Result Cells ℕ) (cells : Option Cells)
-    → and_then (cells_or_stuck cells) (λ old. and_then (f old) (λ made. Ok (record { number = k.number; cells = Some made }))) ≡ Ok new → new.number ≡ k.number
-changed_number k new f None e = absurd (cc)
-changed_number k new f (Some old) e = number_of (f old) e
-  where
-    number_of : (r : Result Cells ℕ) → and_then r (λ made. Ok (record { number = k.number; cells = Some made })) ≡ Ok new → new.number ≡ k.number
-    number_of (Ok made) e = let same : record { number = k.number; cells = Some made } ≡ new = cc in sym (ap (λ (s : Kept). s.number) same)
-    number_of (Err why) e = absurd (cc)
-
-pub changed_same_number : (k new : Kept) (f : Cells → Result Cells ℕ) → changed_slot k f ≡ Ok new → new.number ≡ k.number
-changed_same_number k new f e = changed_number k new f k.cells e
 
 -- ---- the end of the slots
 
@@ -458,34 +451,6 @@ missed ks low high n met less more i d below = by_order (cases_lt i low)
     by_order (inl before) = let under : (get_or ks i d).number < n = less i d before in omega arith
     by_order (inr from) = let above : n < (get_or ks i d).number = more i d (omega arith) below in omega arith
 
--- a store into the slot of a reference
-pub store_ok : {U : Type 0} (r : Result U ℕ) (top : ℕ) (ks : List Kept) (link : Option ℕ) (at : ℕ) (k new : Kept) (f : Cells → Result Cells ℕ)
-    → IsRising 0 top ks → IsPlace ks link at → at < length ks → k ≡ get_or ks at k → OnOk r (changed_slot k f ≡ Ok new)
-    → OnOk r (changed (living ks) link f ≡ Ok (living (set ks at new)))
-store_ok (Err why) top ks link at k new f rises place below is done = tt
-store_ok (Ok u) top ks link at k new f rises place below is done =
-    let here : changed_slot (get_or ks at k) f ≡ Ok new = subst (λ x. changed_slot x f ≡ Ok new) is done in
-    change_at top ks link at k f rises place below ∙ ap (λ r. and_then r (λ x. Ok (living (set ks at x)))) here
-
-pub store_err : {U : Type 0} (r : Result U ℕ) (top : ℕ) (ks : List Kept) (link : Option ℕ) (at : ℕ) (k : Kept) (f : Cells → Result Cells ℕ)
-    → IsRising 0 top ks → IsPlace ks link at → at < length ks → k ≡ get_or ks at k → IfErr r (λ why. changed_slot k f ≡ Err why)
-    → IfErr r (λ why. changed (living ks) link f ≡ Err why)
-store_err (Ok u) top ks link at k f rises place below is done = tt
-store_err (Err why) top ks link at k f rises place below is done =
-    let here : changed_slot (get_or ks at k) f ≡ Err why = subst (λ x. changed_slot x f ≡ Err why) is done in
-    change_at top ks link at k f rises place below ∙ ap (λ r. and_then r (λ x. Ok (living (set ks at x)))) here
-
-pub store_rising : {U : Type 0} (r : Result U ℕ) (top : ℕ) (ks : List Kept) (at : ℕ) (k new : Kept) (f : Cells → Result Cells ℕ)
-    → IsRising 0 top ks → at < length ks → k ≡ get_or ks at k → OnOk r (changed_slot k f ≡ Ok new) → OnErr r (new ≡ k) → IsRising 0 top (set ks at new)
-store_rising (Ok u) top ks at k new f rises below is done stays =
-    rising_set 0 top ks at new k rises below (changed_same_number k new f done ∙ ap (λ (x : Kept). x.number) is)
-store_rising (Err why) top ks at k new f rises below is done stays =
-    rising_set 0 top ks at new k rises below (ap (λ (x : Kept). x.number) (stays ∙ is))
-
-pub store_stays : {U : Type 0} (r : Result U ℕ) (ks : List Kept) (at : ℕ) (k new : Kept) → k ≡ get_or ks at k → OnErr r (new ≡ k) → OnErr r (set ks at new ≡ ks)
-store_stays (Ok u) ks at k new is stays = tt
-store_stays (Err why) ks at k new is stays = ap (set ks at) (stays ∙ is) ∙ set-get_or ks at k
-
 -- a slot is freed where it stands
 pub free_slot : (ks : List Kept) (at : ℕ) (k new : Kept) → at < length ks → k ≡ get_or ks at k → new.number ≡ k.number → new.cells ≡ None → set ks at new ≡ without_cells ks at
 free_slot ks at k new below is number cells =
@@ -514,24 +479,3 @@ dead_is r (Some k) e h = e ∙ dead k.cells h
 pub dead_place : (top : ℕ) (ks : List Kept) (link : Option ℕ) (at : ℕ) → IsRising 0 top ks → IsPlace ks link at → is_live (slot_cells (slice_get ks at)) ≡ false
     → cells_at (living ks) link ≡ Err 2
 dead_place top ks link at rises place h = dead_is (cells_at (living ks) link) (slice_get ks at) (place_slot top ks link at rises place) h
-
--- ---- the same where memory may be refused first
-
-pub grow_ok : {U E : Type 0} (r : Result (Result U ℕ) E) (top : ℕ) (ks : List Kept) (link : Option ℕ) (at : ℕ) (k new : Kept) (f : Cells → Result Cells ℕ)
-    → IsRising 0 top ks → IsPlace ks link at → at < length ks → k ≡ get_or ks at k → IfOk r (λ done. OnOk done (changed_slot k f ≡ Ok new))
-    → IfOk r (λ done. OnOk done (changed (living ks) link f ≡ Ok (living (set ks at new))))
-grow_ok (Err e) top ks link at k new f rises place below is done = tt
-grow_ok (Ok r) top ks link at k new f rises place below is done = store_ok r top ks link at k new f rises place below is done
-
-pub grow_err : {U E : Type 0} (r : Result (Result U ℕ) E) (top : ℕ) (ks : List Kept) (link : Option ℕ) (at : ℕ) (k : Kept) (f : Cells → Result Cells ℕ)
-    → IsRising 0 top ks → IsPlace ks link at → at < length ks → k ≡ get_or ks at k → IfOk r (λ done. IfErr done (λ why. changed_slot k f ≡ Err why))
-    → IfOk r (λ done. IfErr done (λ why. changed (living ks) link f ≡ Err why))
-grow_err (Err e) top ks link at k f rises place below is done = tt
-grow_err (Ok r) top ks link at k f rises place below is done = store_err r top ks link at k f rises place below is done
-
-pub grow_rising : {U E : Type 0} (r : Result (Result U ℕ) E) (top : ℕ) (ks : List Kept) (at : ℕ) (k new : Kept) (f : Cells → Result Cells ℕ)
-    → IsRising 0 top ks → at < length ks → k ≡ get_or ks at k → IfOk r (λ done. OnOk done (changed_slot k f ≡ Ok new)) → IfOk r (λ done. OnErr done (new ≡ k)) → OnErr r (new ≡ k)
-    → IsRising 0 top (set ks at new)
-grow_rising (Ok r) top ks at k new f rises below is done stays memory = store_rising r top ks at k new f rises below is done stays
-grow_rising (Err e) top ks at k new f rises below is done stays memory =
-    rising_set 0 top ks at new k rises below (ap (λ (x : Kept). x.number) (memory ∙ is))

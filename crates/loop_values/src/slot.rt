@@ -89,6 +89,7 @@ impl Slot {
     }
 
     pub fn store_int(&mut self, i: i64, value: i64) -> Result<(), u8>
+        ensures number { self.new.number ≡ self.old.number }
         ensures ok { OnOk result (changed_slot self.old (store_int i value) ≡ Ok self.new) }
         ensures err { IfErr result (λ why. changed_slot self.old (store_int i value) ≡ Err why) }
         ensures stays { OnErr result (self.new ≡ self.old) }
@@ -100,6 +101,7 @@ impl Slot {
     }
 
     pub fn store_text(&mut self, i: i64, value: Bytes) -> Result<(), u8>
+        ensures number { self.new.number ≡ self.old.number }
         ensures ok { OnOk result (changed_slot self.old (store_text i value) ≡ Ok self.new) }
         ensures err { IfErr result (λ why. changed_slot self.old (store_text i value) ≡ Err why) }
         ensures stays { OnErr result (self.new ≡ self.old) }
@@ -112,6 +114,7 @@ impl Slot {
 
     /// So many more cells at the end.
     pub fn grow(&mut self, alloc: Global, count: i64) -> Result<Result<(), u8>, AllocError>
+        ensures number { self.new.number ≡ self.old.number }
         ensures ok { IfOk result (λ done. OnOk done (changed_slot self.old (λ cells. grown cells count) ≡ Ok self.new)) }
         ensures err { IfOk result (λ done. IfErr done (λ why. changed_slot self.old (λ cells. grown cells count) ≡ Err why)) }
         ensures stays { IfOk result (λ done. OnErr done (self.new ≡ self.old)) }
