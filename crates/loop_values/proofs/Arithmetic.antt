@@ -1,11 +1,11 @@
 -- Division and powers that wrap at 64 bits.
-use Rattle.std.proofs.Common.{◌≡◌, ℕ, zero, suc, ◌-◌, ◌*◌, ◌/◌, ◌%◌, ◌^◌, ◌<◌, ◌≤◌, Bool, true, false, ℤ, pos, ◌*ℤ◌, FitsSigned, w64, of_z, to_z, cond, ◌⊎◌, inl, inr, refl, sym, ap, ◌∙◌, subst, arith}
+use Rattle.std.proofs.Common.{◌≡◌, ℕ, zero, suc, ◌-◌, ◌*◌, ◌/◌, ◌%◌, ◌^◌, ◌<◌, ◌≤◌, false, ℤ, pos, ◌*ℤ◌, FitsSigned, w64, of_z, to_z, cond, ◌⊎◌, inl, inr, refl, sym, ap, ◌∙◌, subst, arith}
 use Rattle.std.specs.Prelude.{negsuc, unsigned_abs, int_div, neg_ℤ, Ok, ◌==◌}
 use Rattle.std.specs.Int.{int_wrap, int_pow, int_wrapping_div, int_wrapping_pow, cast_signed, cast_unsigned}
 use Rattle.std.specs.Ordering.{int_eq}
 use Rattle.std.proofs.Math.Nat.{div-le_self, pow-suc, pow-zero, zero-mul}
 use Rattle.std.proofs.lemmas.Nat.{mul-mod}
-use Rattle.std.proofs.lemmas.Bool.{cases_eq}
+use Rattle.std.proofs.lemmas.Bool.{cases_eq, false_from_ne_true}
 use Rattle.std.proofs.lemmas.Bool.Decides.{nat_tests, Decides-int_eq}
 use Rattle.std.proofs.lemmas.Int.{wrapping_mul_onto, int_wrap-mul_left}
 use Rattle.a95_base.specs.Integer.{wrapped}
@@ -34,12 +34,8 @@ fits_abs : (z : ℤ) → FitsSigned w64 z → unsigned_abs z ≤ 922337203685477
 fits_abs (pos n) h = omega arith
 fits_abs (negsuc n) h = omega arith
 
-not_true : (b : Bool) → (b ≡ true → ⊥) → b ≡ false
-not_true true h = absurd (h refl)
-not_true false h = refl
-
 not_zero : (y : ℤ) → (of_z w64 y ≡ 0 → ⊥) → int_eq y (pos 0) ≡ false
-not_zero y h = not_true (int_eq y (pos 0)) (λ same. h (ap (of_z w64) ((Decides-int_eq y (pos 0)).0 same)))
+not_zero y h = false_from_ne_true (int_eq y (pos 0)) (λ same. h (ap (of_z w64) ((Decides-int_eq y (pos 0)).0 same)))
 
 pub quotient_is : (x y : ℤ) → FitsSigned w64 x → (of_z w64 y ≡ 0 → ⊥) → Ok (int_wrapping_div w64 x y) ≡ quotient x y
 quotient_is x y fits h =

@@ -1,29 +1,24 @@
 -- Blanks at the ends of a text, and places in it.
-use Rattle.std.proofs.Common.{◌≡◌, ◌≢◌, ℕ, zero, suc, ◌+◌, ◌-◌, ◌<◌, ◌≤◌, Bool, true, false, ◌&&◌, List, [], ◌∷◌, ◌++◌, length, get_or, take, drop, refl, sym, ap, ◌∙◌, subst, arith, length-append}
+use Rattle.std.proofs.Common.{◌≡◌, ◌≢◌, ℕ, zero, suc, ◌+◌, ◌-◌, ◌<◌, ◌≤◌, true, false, ◌&&◌, List, [], ◌∷◌, ◌++◌, length, get_or, take, drop, refl, sym, ap, ◌∙◌, subst, arith, length-append}
 use Rattle.std.specs.Prelude.{nat_eq, if◌then◌else◌}
 use Rattle.std.specs.List.{list_all, starts_with}
-use Rattle.std.proofs.lemmas.List.{take_more, length-take-le, ext_get_or, get_or-take, take-append-drop, get_or_append_left}
+use Rattle.std.proofs.lemmas.List.{length-take-le, ext_get_or, get_or-take, take-append-drop, get_or_append_left}
 use Rattle.std.proofs.lemmas.List.Folds.{list_all-append}
+use Rattle.std.proofs.Math.Bool.{and-true, and-false}
+use Rattle.std.proofs.lemmas.Bool.{false_from_ne_true}
 use Rattle.std.proofs.lemmas.Bool.Decides.{nat_tests, Decides-eqb}
 use Rattle.std.proofs.lemmas.Slice.Eq.{starts_is}
 use Rattle.memchr.specs.Find.{OccursAt}
+use Rattle.loop_values.proofs.Ends.{take_end}
 use Rattle.loop_tree.specs.Characters.{is_blank, trim, place_from}
 
 -- ---- blanks at the end
-
-and_true : (b : Bool) → (b && true) ≡ b
-and_true true = refl
-and_true false = refl
-
-and_false : (b : Bool) → (b && false) ≡ false
-and_false true = refl
-and_false false = refl
 
 pub trim_blank : (xs : List ℕ) (c : ℕ) → is_blank c ≡ true → trim (xs ++ c ∷ []) ≡ trim xs
 trim_blank [] c h = rw h refl
 trim_blank (x ∷ xs) c h =
     let all : list_all is_blank ((x ∷ xs) ++ c ∷ []) ≡ list_all is_blank (x ∷ xs) =
-    list_all-append is_blank (x ∷ xs) (c ∷ []) ∙ ap (λ b. list_all is_blank (x ∷ xs) && (b && true)) h ∙ and_true (list_all is_blank (x ∷ xs)) in
+    list_all-append is_blank (x ∷ xs) (c ∷ []) ∙ ap (λ b. list_all is_blank (x ∷ xs) && (b && true)) h ∙ and-true (list_all is_blank (x ∷ xs)) in
     ap (λ b. if b then [] else (x ∷ trim (xs ++ c ∷ []))) all
     ∙ ap (λ ys. if list_all is_blank (x ∷ xs) then [] else (x ∷ ys)) (trim_blank xs c h)
 
@@ -31,22 +26,18 @@ pub trim_end : (xs : List ℕ) (c : ℕ) → is_blank c ≡ false → trim (xs +
 trim_end [] c h = rw h refl
 trim_end (x ∷ xs) c h =
     let all : list_all is_blank ((x ∷ xs) ++ c ∷ []) ≡ false =
-    list_all-append is_blank (x ∷ xs) (c ∷ []) ∙ ap (λ b. list_all is_blank (x ∷ xs) && (b && true)) h ∙ and_false (list_all is_blank (x ∷ xs)) in
+    list_all-append is_blank (x ∷ xs) (c ∷ []) ∙ ap (λ b. list_all is_blank (x ∷ xs) && (b && true)) h ∙ and-false (list_all is_blank (x ∷ xs)) in
     ap (λ b. if b then [] else (x ∷ trim (xs ++ c ∷ []))) all
     ∙ ap (λ ys. x ∷ ys) (trim_end xs c h)
 
 -- the same by a place
 pub trim_step : (text : List ℕ) (n : ℕ) → 0 < n → n ≤ length text → get_or text (n - 1) 0 ≡ 32 → trim (take n text) ≡ trim (take (n - 1) text)
-trim_step text n some within blank =
-    let e : n ≡ n - 1 + 1 = omega arith in
-    let is : is_blank (get_or text (n - 1) 0) ≡ true = ap is_blank blank in
-    ap (λ k. trim (take k text)) e ∙ ap trim (take_more text (n - 1) 0 (omega arith)) ∙ trim_blank (take (n - 1) text) (get_or text (n - 1) 0) is
+trim_step text n some within blank = ap trim (take_end text n 0 some within) ∙ trim_blank (take (n - 1) text) (get_or text (n - 1) 0) (ap is_blank blank)
 
 pub trim_stop : (text : List ℕ) (n : ℕ) → 0 < n → n ≤ length text → get_or text (n - 1) 0 ≢ 32 → trim (take n text) ≡ take n text
 trim_stop text n some within other =
-    let e : n ≡ n - 1 + 1 = omega arith in
     let is : is_blank (get_or text (n - 1) 0) ≡ false = grind (arith, nat_tests) in
-    let whole : take n text ≡ take (n - 1) text ++ get_or text (n - 1) 0 ∷ [] = ap (λ k. take k text) e ∙ take_more text (n - 1) 0 (omega arith) in
+    let whole = take_end text n 0 some within in
     ap trim whole ∙ trim_end (take (n - 1) text) (get_or text (n - 1) 0) is ∙ sym whole
 
 -- ---- the first place of a part
@@ -86,17 +77,13 @@ starts_occurs : (text part : List ℕ) → starts_with nat_eq text part ≡ true
 starts_occurs text part h =
     front_occurs text part (drop (length part) text) ((starts_is Decides-eqb text part (starts_with nat_eq text part) refl).0 h)
 
-not_true : (b : Bool) → (b ≡ true → ⊥) → b ≡ false
-not_true true h = absurd (h refl)
-not_true false h = refl
-
 here : (place : ℕ) (text part : List ℕ) → starts_with nat_eq text part ≡ true → place_from place text part ≡ place
 here place [] part h = rw h refl
 here place (c ∷ cs) part h = rw h refl
 
 later : (place c : ℕ) (cs part : List ℕ) → (OccursAt (c ∷ cs) part 0 → ⊥) → place_from place (c ∷ cs) part ≡ place_from (place + 1) cs part
 later place c cs part h =
-    let other : starts_with nat_eq (c ∷ cs) part ≡ false = not_true _ (λ starts. h (starts_occurs (c ∷ cs) part starts)) in
+    let other : starts_with nat_eq (c ∷ cs) part ≡ false = false_from_ne_true _ (λ starts. h (starts_occurs (c ∷ cs) part starts)) in
     rw other refl
 
 pub place_found : (place : ℕ) (text part : List ℕ) (k : ℕ) → OccursAt text part k → ((j : ℕ) → j < k → ¬ (OccursAt text part j)) → place_from place text part ≡ place + k
@@ -113,7 +100,7 @@ place_found place (c ∷ cs) part (suc k) h none =
 
 pub place_none : (place : ℕ) (text part : List ℕ) → ((j : ℕ) → j < length text + 1 → ¬ (OccursAt text part j)) → place_from place text part ≡ 0
 place_none place [] part none =
-    let other : starts_with nat_eq [] part ≡ false = not_true _ (λ starts. none 0 (omega arith) (starts_occurs [] part starts)) in
+    let other : starts_with nat_eq [] part ≡ false = false_from_ne_true _ (λ starts. none 0 (omega arith) (starts_occurs [] part starts)) in
     rw other refl
 place_none place (c ∷ cs) part none =
     later place c cs part (none 0 (omega arith))

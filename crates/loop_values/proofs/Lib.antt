@@ -1,4 +1,5 @@
 pub mod Arithmetic
 pub mod Bytes
+pub mod Ends
 pub mod Slots
 pub mod Spread

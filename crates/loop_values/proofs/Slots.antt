@@ -1,14 +1,17 @@
 -- The living blocks of slots whose numbers rise: what a number finds among them, and what changes of one slot do.
 use Rattle.std.proofs.Common.{◌≡◌, ◌≢◌, ◌⊎◌, ℕ, zero, suc, ◌+◌, ◌-◌, ◌<◌, ◌≤◌, ◌==◌, Bool, true, false, not, List, [], ◌∷◌, ◌++◌, length, get_or, set, take, filter, Option, None, Some, Result, Ok, Err, if◌then◌else◌, refl, sym, ap, ◌∙◌, subst, inl, inr, append_assoc, append-nil, arith, nat_lt}
-use Rattle.std.specs.Prelude.{slice_get, is_some, IsSome, OnOk, OnErr, IfOk, IfErr}
+use Rattle.std.specs.Prelude.{slice_get, is_some, IsSome}
 use Rattle.std.proofs.lemmas.Bool.{cases_lt}
 use Rattle.std.proofs.lemmas.Bool.Decides.{nat_tests}
-use Rattle.std.proofs.lemmas.List.{map-append, take_more, get_or_default, set-get_or}
+use Rattle.std.proofs.lemmas.List.{map-append, get_or_default}
+use Rattle.std.proofs.lemmas.List.Elements.{filter-append}
+use Rattle.std.proofs.lemmas.Option.{slice_get-get_or, slice_get_past}
 use Rattle.loop_tree.specs.State.{Cells, Block, cells_numbered, cells_or_stuck, cells_at, with_cells, without, made_before}
 use Rattle.loop_tree.specs.Values.{and_then, is_live}
 use Rattle.loop_tree.specs.Machine.{changed, freed}
 use Rattle.loop_values.specs.Heap.{Heap, with_made}
 use Rattle.loop_values.specs.Slots.{Kept, block_of, living, is_living, IsRising, IsPlace, changed_slot, slot_cells, without_cells}
+use Rattle.loop_values.proofs.Ends.{take_end}
 
 -- ---- a number that no block has
 
@@ -40,12 +43,6 @@ pub without_lacks : (n : ℕ) (bs : List Block) → Lacks n bs → without bs n 
 without_lacks n [] p = refl
 without_lacks n (b ∷ bs) p = rw p.0 (ap (λ r. b ∷ r) (without_lacks n bs p.1))
 
-pub filter-append : {A : Type 0} (test : A → Bool) (xs ys : List A) → filter test (xs ++ ys) ≡ filter test xs ++ filter test ys
-filter-append test [] ys = refl
-filter-append test (x ∷ xs) ys =
-    elim (test x) as (λ b. (if b then x ∷ filter test (xs ++ ys) else filter test (xs ++ ys)) ≡ (if b then x ∷ filter test xs else filter test xs) ++ filter test ys)
-    [ true ↦ ap (λ r. x ∷ r) (filter-append test xs ys) | false ↦ filter-append test xs ys ]
-
 -- ---- numbers that rise
 
 pub living-append : (xs ys : List Kept) → living (xs ++ ys) ≡ living ys ++ living xs
@@ -68,12 +65,13 @@ rising_below low top [] i d h below = absurd (omega arith)
 rising_below low top (k ∷ ks) zero d h below = let rest : k.number + 1 ≤ top = rising_le (k.number + 1) top ks h.1 in omega arith
 rising_below low top (k ∷ ks) (suc i) d h below = rising_below (k.number + 1) top ks i d h.1 (omega arith)
 
-pub rising_pairs : (low top : ℕ) (ks : List Kept) (i j : ℕ) (d : Kept) → IsRising low top ks → i < j → j < length ks → (get_or ks i d).number < (get_or ks j d).number
-rising_pairs low top [] i j d h less below = absurd (omega arith)
-rising_pairs low top (k ∷ ks) i zero d h less below = absurd (omega arith)
-rising_pairs low top (k ∷ ks) zero (suc j) d h less below =
+pub rising_pairs : (low top : ℕ) (ks : List Kept) (i j : ℕ) (d : Kept) → IsRising low top ks → i ≤ j → j < length ks → (get_or ks i d).number ≤ (get_or ks j d).number
+rising_pairs low top [] i j d h order below = absurd (omega arith)
+rising_pairs low top (k ∷ ks) zero zero d h order below = omega arith
+rising_pairs low top (k ∷ ks) (suc i) zero d h order below = absurd (omega arith)
+rising_pairs low top (k ∷ ks) zero (suc j) d h order below =
     let rest : k.number + 1 ≤ (get_or ks j d).number = rising_from (k.number + 1) top ks j d h.1 (omega arith) in omega arith
-rising_pairs low top (k ∷ ks) (suc i) (suc j) d h less below = rising_pairs (k.number + 1) top ks i j d h.1 (omega arith) (omega arith)
+rising_pairs low top (k ∷ ks) (suc i) (suc j) d h order below = rising_pairs (k.number + 1) top ks i j d h.1 (omega arith) (omega arith)
 
 pub rising_push : (low top : ℕ) (ks : List Kept) (k : Kept) → IsRising low top ks → k.number ≡ top → IsRising low (top + 1) (ks ++ k ∷ [])
 rising_push low top [] k h e = (omega arith, omega arith)
@@ -151,8 +149,23 @@ numbered_at low top (k ∷ ks) (suc i) d h below =
     numbered_back n (living ks) (block_of k.number k.cells) (lacks_block n k.number k.cells other)
     ∙ numbered_at (k.number + 1) top ks i d h.1 (omega arith)
 
-with_cells-append : (n : ℕ) (c : Cells) (xs ys : List Block) → with_cells (xs ++ ys) n c ≡ with_cells xs n c ++ with_cells ys n c
-with_cells-append n c xs ys = map-append (λ (b : Block). if b.number == n then record { number = n; cells = c } else b) xs ys
+-- a change of the blocks of one number alone is a change of one slot
+slot_changed : (change : List Block → List Block) (low top : ℕ) (ks : List Kept) (i : ℕ) (d : Kept) (new : Option Cells)
+    → ((xs ys : List Block) → change (xs ++ ys) ≡ change xs ++ change ys) → ((bs : List Block) → Lacks (get_or ks i d).number bs → change bs ≡ bs)
+    → change (block_of (get_or ks i d).number (get_or ks i d).cells) ≡ block_of (get_or ks i d).number new → IsRising low top ks → i < length ks
+    → change (living ks) ≡ living (set ks i (record { number = (get_or ks i d).number; cells = new }))
+slot_changed change low top [] i d new parts others here h below = absurd (omega arith)
+slot_changed change low top (k ∷ ks) zero d new parts others here h below =
+    parts (living ks) (block_of k.number k.cells)
+    ∙ ap (λ r. r ++ change (block_of k.number k.cells)) (others (living ks) (lacks_below k.number (k.number + 1) top ks h.1 (omega arith)))
+    ∙ ap (λ r. living ks ++ r) here
+slot_changed change low top (k ∷ ks) (suc i) d new parts others here h below =
+    let n = (get_or ks i d).number in
+    let from : k.number + 1 ≤ n = rising_from (k.number + 1) top ks i d h.1 (omega arith) in
+    let other : (k.number == n) ≡ false = grind (arith, nat_tests) in
+    parts (living ks) (block_of k.number k.cells)
+    ∙ ap (λ r. change (living ks) ++ r) (others (block_of k.number k.cells) (lacks_block n k.number k.cells other))
+    ∙ ap (λ r. r ++ block_of k.number k.cells) (slot_changed change (k.number + 1) top ks i d new parts others here h.1 (omega arith))
 
 with_cells_block : (n : ℕ) (c old : Cells) → with_cells (block_of n (Some old)) n c ≡ block_of n (Some c)
 with_cells_block n c old = rw (same_number n)
@@ -160,22 +173,10 @@ with_cells_block n c old = rw (same_number n)
 -- other cells of one slot
 pub with_cells_at : (low top : ℕ) (ks : List Kept) (i : ℕ) (d : Kept) (old c : Cells) → IsRising low top ks → i < length ks → (get_or ks i d).cells ≡ Some old
     → with_cells (living ks) (get_or ks i d).number c ≡ living (set ks i (record { number = (get_or ks i d).number; cells = Some c }))
-with_cells_at low top [] i d old c h below e = absurd (omega arith)
-with_cells_at low top (k ∷ ks) zero d old c h below e =
-    with_cells-append k.number c (living ks) (block_of k.number k.cells)
-    ∙ ap (λ r. r ++ with_cells (block_of k.number k.cells) k.number c) (with_cells_lacks k.number c (living ks) (lacks_below k.number (k.number + 1) top ks h.1 (omega arith)))
-    ∙ ap (λ r. living ks ++ with_cells (block_of k.number r) k.number c) e
-    ∙ ap (λ r. living ks ++ r) (with_cells_block k.number c old)
-with_cells_at low top (k ∷ ks) (suc i) d old c h below e =
+with_cells_at low top ks i d old c h below e =
     let n = (get_or ks i d).number in
-    let from : k.number + 1 ≤ n = rising_from (k.number + 1) top ks i d h.1 (omega arith) in
-    let other : (k.number == n) ≡ false = grind (arith, nat_tests) in
-    with_cells-append n c (living ks) (block_of k.number k.cells)
-    ∙ ap (λ r. with_cells (living ks) n c ++ r) (with_cells_lacks n c (block_of k.number k.cells) (lacks_block n k.number k.cells other))
-    ∙ ap (λ r. r ++ block_of k.number k.cells) (with_cells_at (k.number + 1) top ks i d old c h.1 (omega arith) e)
-
-without-append : (n : ℕ) (xs ys : List Block) → without (xs ++ ys) n ≡ without xs n ++ without ys n
-without-append n xs ys = filter-append (λ (b : Block). not (b.number == n)) xs ys
+    let here : with_cells (block_of n (get_or ks i d).cells) n c ≡ block_of n (Some c) = ap (λ cells. with_cells (block_of n cells) n c) e ∙ with_cells_block n c old in
+    slot_changed (λ bs. with_cells bs n c) low top ks i d (Some c) (map-append (λ (b : Block). if b.number == n then record { number = n; cells = c } else b)) (with_cells_lacks n c) here h below
 
 without_block : (n : ℕ) (cells : Option Cells) → without (block_of n cells) n ≡ []
 without_block n None = refl
@@ -184,18 +185,9 @@ without_block n (Some cells) = rw (same_number n)
 -- one slot is freed
 pub without_at : (low top : ℕ) (ks : List Kept) (i : ℕ) (d : Kept) → IsRising low top ks → i < length ks
     → without (living ks) (get_or ks i d).number ≡ living (set ks i (record { number = (get_or ks i d).number; cells = None }))
-without_at low top [] i d h below = absurd (omega arith)
-without_at low top (k ∷ ks) zero d h below =
-    without-append k.number (living ks) (block_of k.number k.cells)
-    ∙ ap (λ r. r ++ without (block_of k.number k.cells) k.number) (without_lacks k.number (living ks) (lacks_below k.number (k.number + 1) top ks h.1 (omega arith)))
-    ∙ ap (λ r. living ks ++ r) (without_block k.number k.cells)
-without_at low top (k ∷ ks) (suc i) d h below =
+without_at low top ks i d h below =
     let n = (get_or ks i d).number in
-    let from : k.number + 1 ≤ n = rising_from (k.number + 1) top ks i d h.1 (omega arith) in
-    let other : (k.number == n) ≡ false = grind (arith, nat_tests) in
-    without-append n (living ks) (block_of k.number k.cells)
-    ∙ ap (λ r. without (living ks) n ++ r) (without_lacks n (block_of k.number k.cells) (lacks_block n k.number k.cells other))
-    ∙ ap (λ r. r ++ block_of k.number k.cells) (without_at (k.number + 1) top ks i d h.1 (omega arith))
+    slot_changed (λ bs. without bs n) low top ks i d None (filter-append (λ (b : Block). not (b.number == n))) (without_lacks n) (without_block n (get_or ks i d).cells) h below
 
 -- ---- blocks from a number on
 
@@ -307,48 +299,23 @@ rising_take low top zero ks h = rising_le low top ks h
 rising_take low top (suc n) [] h = h
 rising_take low top (suc n) (k ∷ ks) h = (h.0, rising_take (k.number + 1) top n ks h.1)
 
-pub before_step : (mark : ℕ) (ks : List Kept) (i : ℕ) (d : Kept) → i < length ks → mark ≤ (get_or ks i d).number
-    → made_before (living (take (i + 1) ks)) mark ≡ made_before (living (take i ks)) mark
-before_step mark ks i d below past =
-    ap (λ xs. made_before (living xs) mark) (take_more ks i d below) ∙ made_before_pop mark (take i ks) (get_or ks i d) past
-
-rising_upto : (low top : ℕ) (ks : List Kept) (i : ℕ) (d : Kept) → IsRising low top ks → i < length ks → IsRising low ((get_or ks i d).number + 1) (take (suc i) ks)
-rising_upto low top [] i d h below = absurd (omega arith)
-rising_upto low top (k ∷ ks) zero d h below = (h.0, omega arith)
-rising_upto low top (k ∷ ks) (suc i) d h below = (h.0, rising_upto (k.number + 1) top ks i d h.1 (omega arith))
-
-pub before_end : (mark top : ℕ) (ks : List Kept) (i : ℕ) (d : Kept) → IsRising 0 top ks → i < length ks → (get_or ks i d).number < mark
-    → made_before (living (take (i + 1) ks)) mark ≡ living (take (i + 1) ks)
-before_end mark top ks i d h below less =
-    let e : suc i ≡ i + 1 = omega arith in
-    let rises : IsRising 0 ((get_or ks i d).number + 1) (take (i + 1) ks) = subst (λ n. IsRising 0 ((get_or ks i d).number + 1) (take n ks)) e (rising_upto 0 top ks i d h below) in
-    made_before_all mark 0 ((get_or ks i d).number + 1) (take (i + 1) ks) rises (omega arith)
-
-pub hole_step : (ks : List Kept) (i : ℕ) (d : Kept) → i < length ks → (get_or ks i d).cells ≡ None → living (take (i + 1) ks) ≡ living (take i ks)
-hole_step ks i d below e = ap living (take_more ks i d below) ∙ living_pop_hole (take i ks) (get_or ks i d) e
+-- the last of the first slots
+slot_end : (ks : List Kept) (end : ℕ) (k : Kept) → 0 < end → end ≤ length ks → k ≡ get_or ks (end - 1) k → take end ks ≡ take (end - 1) ks ++ k ∷ []
+slot_end ks end k some within is = take_end ks end k some within ∙ ap (λ x. take (end - 1) ks ++ x ∷ []) (sym is)
 
 -- ---- a slot read by `get`
-
-slot_at : (ks : List Kept) (at : ℕ) (d : Kept) → at < length ks → slice_get ks at ≡ Some (get_or ks at d)
-slot_at [] at d below = absurd (omega arith)
-slot_at (k ∷ ks) zero d below = refl
-slot_at (k ∷ ks) (suc at) d below = slot_at ks at d (omega arith)
-
-slot_past : (ks : List Kept) (at : ℕ) → length ks ≤ at → slice_get ks at ≡ None
-slot_past [] at past = refl
-slot_past (k ∷ ks) zero past = absurd (omega arith)
-slot_past (k ∷ ks) (suc at) past = slot_past ks at (omega arith)
 
 nothing : Kept
 nothing = record { number = 0; cells = None }
 
-pub place_slot : (top : ℕ) (ks : List Kept) (link : Option ℕ) (at : ℕ) → IsRising 0 top ks → IsPlace ks link at
-    → cells_at (living ks) link ≡ slot_cells (slice_get ks at)
-place_slot top ks link at rises place = by_order (cases_lt at (length ks))
+-- the cells that a reference leads to
+pub place_slot : {h : Heap} {top : ℕ} {ks : List Kept} {link : Option ℕ} {at : ℕ} → record { blocks = living ks; made = top } ≡ h → IsRising 0 top ks → IsPlace ks link at
+    → cells_at h.blocks link ≡ slot_cells (slice_get ks at)
+place_slot {h} {top} {ks} {link} {at} view rises place = ap (λ (x : Heap). cells_at x.blocks link) (sym view) ∙ by_order (cases_lt at (length ks))
   where
     by_order : (at < length ks) ⊎ (length ks ≤ at) → cells_at (living ks) link ≡ slot_cells (slice_get ks at)
-    by_order (inl below) = place_cells top ks link at nothing rises place below ∙ ap slot_cells (sym (slot_at ks at nothing below))
-    by_order (inr past) = place.none past ∙ ap slot_cells (sym (slot_past ks at past))
+    by_order (inl below) = place_cells top ks link at nothing rises place below ∙ ap slot_cells (sym (slice_get-get_or ks at nothing below))
+    by_order (inr past) = place.none past ∙ ap slot_cells (sym (slice_get_past ks at past))
 
 without_slot : (ks : List Kept) (at : ℕ) (d : Kept) → at < length ks → set ks at (record { number = (get_or ks at d).number; cells = None }) ≡ without_cells ks at
 without_slot [] at d below = absurd (omega arith)
@@ -361,9 +328,9 @@ rising_without low top (k ∷ ks) zero h = h
 rising_without low top (k ∷ ks) (suc at) h = (h.0, rising_without (k.number + 1) top ks at h.1)
 
 -- the block of a place is freed, where one lives there
-pub free_place : (top : ℕ) (ks : List Kept) (link : Option ℕ) (at : ℕ) → IsRising 0 top ks → IsPlace ks link at → is_live (slot_cells (slice_get ks at)) ≡ true
-    → living (without_cells ks at) ≡ freed (living ks) link
-free_place top ks link at rises place live = by_order (cases_lt at (length ks))
+pub free_place : {h : Heap} {top : ℕ} {ks : List Kept} {link : Option ℕ} {at : ℕ} → record { blocks = living ks; made = top } ≡ h → IsRising 0 top ks → IsPlace ks link at
+    → is_live (slot_cells (slice_get ks at)) ≡ true → living (without_cells ks at) ≡ freed h.blocks link
+free_place {h} {top} {ks} {link} {at} view rises place live = by_order (cases_lt at (length ks)) ∙ ap (λ (x : Heap). freed x.blocks link) view
   where
     by_order : (at < length ks) ⊎ (length ks ≤ at) → living (without_cells ks at) ≡ freed (living ks) link
     by_order (inl below) =
@@ -371,31 +338,23 @@ free_place top ks link at rises place live = by_order (cases_lt at (length ks))
         ∙ sym (without_at 0 top ks at nothing rises below)
         ∙ ap (freed (living ks)) (sym (place.found nothing below))
     by_order (inr past) =
-        let none : is_live (slot_cells (slice_get ks at)) ≡ false = ap (λ o. is_live (slot_cells o)) (slot_past ks at past) in
+        let none : is_live (slot_cells (slice_get ks at)) ≡ false = ap (λ o. is_live (slot_cells o)) (slice_get_past ks at past) in
         absurd (cc)
 
 -- ---- in the words of the code
 
-before_drop_suc : (mark : ℕ) (ks : List Kept) (end : ℕ) (d : Kept) → 0 < end → end ≤ length ks → mark ≤ (get_or ks (end - 1) d).number
-    → made_before (living (take end ks)) mark ≡ made_before (living (take (end - 1) ks)) mark
-before_drop_suc mark ks end d some within past =
-    let e : end ≡ end - 1 + 1 = omega arith in
-    ap (λ n. made_before (living (take n ks)) mark) e ∙ before_step mark ks (end - 1) d (omega arith) past
-
 pub before_drop : (mark : ℕ) (ks : List Kept) (end : ℕ) (k : Kept) → 0 < end → end ≤ length ks → k ≡ get_or ks (end - 1) k → mark ≤ k.number
     → made_before (living (take end ks)) mark ≡ made_before (living ks) mark → made_before (living (take (end - 1) ks)) mark ≡ made_before (living ks) mark
 before_drop mark ks end k some within is past before =
-    let far : mark ≤ (get_or ks (end - 1) k).number = subst (λ (x : Kept). mark ≤ x.number) is past in
-    sym (before_drop_suc mark ks end k some within far) ∙ before
+    sym (ap (λ xs. made_before (living xs) mark) (slot_end ks end k some within is) ∙ made_before_pop mark (take (end - 1) ks) k past) ∙ before
 
 pub before_stop : (mark top : ℕ) (ks : List Kept) (end : ℕ) (k : Kept) → IsRising 0 top ks → 0 < end → end ≤ length ks → k ≡ get_or ks (end - 1) k → k.number < mark
     → made_before (living (take end ks)) mark ≡ made_before (living ks) mark → living (take end ks) ≡ made_before (living ks) mark
 before_stop mark top ks end k rises some within is less before =
-    let near : (get_or ks (end - 1) k).number < mark = subst (λ (x : Kept). x.number < mark) is less in
-    let e : end - 1 + 1 ≡ end = omega arith in
-    let stays : made_before (living (take end ks)) mark ≡ living (take end ks) =
-    subst (λ n. made_before (living (take n ks)) mark ≡ living (take n ks)) e (before_end mark top ks (end - 1) k rises (omega arith) near) in
-    sym stays ∙ before
+    let last : take end ks ≡ take (end - 1) ks ++ k ∷ [] = slot_end ks end k some within is in
+    let low : IsRising 0 k.number (take (end - 1) ks) = rising_last 0 top (take (end - 1) ks) k (subst (IsRising 0 top) last (rising_take 0 top end ks rises)) in
+    let all : IsRising 0 (k.number + 1) (take end ks) = subst (IsRising 0 (k.number + 1)) (sym last) (rising_push 0 k.number (take (end - 1) ks) k low refl) in
+    sym (made_before_all mark 0 (k.number + 1) (take end ks) all (omega arith)) ∙ before
 
 no_cells : (o : Option Cells) → is_some o ≡ false → o ≡ None
 no_cells None h = refl
@@ -404,44 +363,22 @@ no_cells (Some c) h = absurd (cc)
 pub hole_drop : (ks : List Kept) (end : ℕ) (k : Kept) → 0 < end → end ≤ length ks → k ≡ get_or ks (end - 1) k → is_living k ≡ false
     → living (take end ks) ≡ living ks → living (take (end - 1) ks) ≡ living ks
 hole_drop ks end k some within is hole before =
-    let gone : (get_or ks (end - 1) k).cells ≡ None = subst (λ (x : Kept). x.cells ≡ None) is (no_cells k.cells hole) in
-    let e : end - 1 + 1 ≡ end = omega arith in
-    let step : living (take end ks) ≡ living (take (end - 1) ks) =
-    subst (λ n. living (take n ks) ≡ living (take (end - 1) ks)) e (hole_step ks (end - 1) k (omega arith) gone) in
-    sym step ∙ before
+    sym (ap living (slot_end ks end k some within is) ∙ living_pop_hole (take (end - 1) ks) k (no_cells k.cells hole)) ∙ before
 
 -- what a search by halves knows
 pub less_on : (top : ℕ) (ks : List Kept) (middle n : ℕ) (k : Kept) → IsRising 0 top ks → middle < length ks → k ≡ get_or ks middle k → k.number < n
     → (i : ℕ) (d : Kept) → i < middle + 1 → (get_or ks i d).number < n
-less_on top ks middle n k rises within is less i d below = by_order (cases_lt i middle)
-  where
-    by_order : (i < middle) ⊎ (middle ≤ i) → (get_or ks i d).number < n
-    by_order (inl before) =
-        let order : (get_or ks i d).number < (get_or ks middle d).number = rising_pairs 0 top ks i middle d rises before within in
-        let same : get_or ks middle d ≡ k = get_or_default ks middle d k within ∙ sym is in
-        let same_number : (get_or ks middle d).number ≡ k.number = ap (λ (x : Kept). x.number) same in
-        omega arith
-    by_order (inr from) =
-        let at : i ≡ middle = omega arith in
-        let same : get_or ks i d ≡ k = ap (λ j. get_or ks j d) at ∙ get_or_default ks middle d k within ∙ sym is in
-        let same_number : (get_or ks i d).number ≡ k.number = ap (λ (x : Kept). x.number) same in
-        omega arith
+less_on top ks middle n k rises within is less i d below =
+    let order : (get_or ks i d).number ≤ (get_or ks middle d).number = rising_pairs 0 top ks i middle d rises (omega arith) within in
+    let same : (get_or ks middle d).number ≡ k.number = ap (λ (x : Kept). x.number) (get_or_default ks middle d k within ∙ sym is) in
+    omega arith
 
 pub more_on : (top : ℕ) (ks : List Kept) (middle n : ℕ) (k : Kept) → IsRising 0 top ks → middle < length ks → k ≡ get_or ks middle k → n < k.number
     → (i : ℕ) (d : Kept) → middle ≤ i → i < length ks → n < (get_or ks i d).number
-more_on top ks middle n k rises within is more i d from below = by_order (cases_lt middle i)
-  where
-    by_order : (middle < i) ⊎ (i ≤ middle) → n < (get_or ks i d).number
-    by_order (inl behind) =
-        let order : (get_or ks middle d).number < (get_or ks i d).number = rising_pairs 0 top ks middle i d rises behind below in
-        let same : get_or ks middle d ≡ k = get_or_default ks middle d k within ∙ sym is in
-        let same_number : (get_or ks middle d).number ≡ k.number = ap (λ (x : Kept). x.number) same in
-        omega arith
-    by_order (inr upto) =
-        let at : i ≡ middle = omega arith in
-        let same : get_or ks i d ≡ k = ap (λ j. get_or ks j d) at ∙ get_or_default ks middle d k within ∙ sym is in
-        let same_number : (get_or ks i d).number ≡ k.number = ap (λ (x : Kept). x.number) same in
-        omega arith
+more_on top ks middle n k rises within is more i d from below =
+    let order : (get_or ks middle d).number ≤ (get_or ks i d).number = rising_pairs 0 top ks middle i d rises from below in
+    let same : (get_or ks middle d).number ≡ k.number = ap (λ (x : Kept). x.number) (get_or_default ks middle d k within ∙ sym is) in
+    omega arith
 
 pub missed : (ks : List Kept) (low high n : ℕ) → high ≤ low → ((i : ℕ) (d : Kept) → i < low → (get_or ks i d).number < n)
     → ((i : ℕ) (d : Kept) → high ≤ i → i < length ks → n < (get_or ks i d).number) → Misses n ks
@@ -476,6 +413,6 @@ dead_is r (Some k) e h = e ∙ dead k.cells h
     dead (Some cells) h = absurd (cc)
 
 -- a reference to nothing that lives
-pub dead_place : (top : ℕ) (ks : List Kept) (link : Option ℕ) (at : ℕ) → IsRising 0 top ks → IsPlace ks link at → is_live (slot_cells (slice_get ks at)) ≡ false
-    → cells_at (living ks) link ≡ Err 2
-dead_place top ks link at rises place h = dead_is (cells_at (living ks) link) (slice_get ks at) (place_slot top ks link at rises place) h
+pub dead_place : {h : Heap} {top : ℕ} {ks : List Kept} {link : Option ℕ} {at : ℕ} → record { blocks = living ks; made = top } ≡ h → IsRising 0 top ks → IsPlace ks link at
+    → is_live (slot_cells (slice_get ks at)) ≡ false → cells_at h.blocks link ≡ Err 2
+dead_place {h} {top} {ks} {link} {at} view rises place none = dead_is (cells_at h.blocks link) (slice_get ks at) (place_slot view rises place) none

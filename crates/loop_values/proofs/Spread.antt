@@ -1,5 +1,5 @@
 -- Variables in a list and a map: what is read at a number, and what a store leaves.
-use Rattle.std.proofs.Common.{◌≡◌, ◌⊎◌, ℕ, zero, suc, ◌+◌, ◌-◌, ◌<◌, ◌≤◌, true, false, List, [], ◌∷◌, ◌++◌, length, get_or, set, replicate, None, Some, refl, sym, ap, ◌∙◌, inl, inr, append_assoc, append-nil, arith, length-append}
+use Rattle.std.proofs.Common.{◌≡◌, ◌⊎◌, ℕ, zero, suc, ◌+◌, ◌-◌, ◌<◌, ◌≤◌, true, false, List, [], ◌∷◌, ◌++◌, length, get_or, set, replicate, None, Some, refl, sym, ap, ◌∙◌, inl, inr, append_assoc, append-nil, arith, length-append, length-set}
 use Rattle.std.specs.Prelude.{unwrap_or, slice_get, Result, Ok, Err, OnOk, OnErr, is_ok, is_err, if◌then◌else◌}
 use Rattle.std.specs.Ordering.{nat_cmp, is_eq}
 use Rattle.std.specs.declared.cmp.Ordering.TheVariants.{Less, Equal, Greater}
@@ -8,6 +8,7 @@ use Rattle.std.specs.Map.{lookup}
 use Rattle.std.proofs.lemmas.Bool.{cases_lt}
 use Rattle.std.proofs.lemmas.Bool.Decides.{nat_tests}
 use Rattle.std.proofs.lemmas.List.{length-replicate, get_or-append_right, get_or_append_left, get_or-replicate, replicate-append-replicate}
+use Rattle.std.proofs.lemmas.Result.{on_ok_weaker}
 use Rattle.loop_tree.specs.State.{with_at}
 use Rattle.loop_values.specs.Spread.{spread, IsSpaced, dense}
 
@@ -212,22 +213,27 @@ length_spread first at (suc i) (e ∷ f ∷ es) p h last is =
     let filled : length (replicate (e.0 - at) first) ≡ e.0 - at = length-replicate (e.0 - at) first in
     omega (arith, h.0)
 
--- ---- a list and the entries behind it
+-- ---- a list and the entries behind it, which show the values xs
 
 pub read_low : {A : Type 0} (first : A) (low ys : List A) (n : ℕ) → n < length low → get_or low n first ≡ get_or (low ++ ys) n first
 read_low first low ys n below = sym (get_or_append_left low ys first n below)
 
-pub read_high : {A : Type 0} (first : A) (low : List A) (es : List (ℕ × A)) (n : ℕ) → length low ≤ dense → IsSpaced dense es → length low ≤ n
-    → unwrap_or (lookup (is_at (nat_cmp n)) es) first ≡ get_or (low ++ spread first (length low) es) n first
-read_high first low es n small spaced past =
+pub read_high : {A : Type 0} (first : A) (low xs : List A) (es : List (ℕ × A)) (n : ℕ) → low ++ spread first (length low) es ≡ xs → length low ≤ dense → IsSpaced dense es → length low ≤ n
+    → unwrap_or (lookup (is_at (nat_cmp n)) es) first ≡ get_or xs n first
+read_high first low xs es n shows small spaced past =
     get_spread first n (length low) es (spaced_lower (length low) dense es spaced small) past
     ∙ sym (get_or-append_right low (spread first (length low) es) (length low) n first refl past)
+    ∙ ap (λ zs. get_or zs n first) shows
 
-pub store_low : {A : Type 0} (first : A) (low ys : List A) (n : ℕ) (v : A) → n < length low → set low n v ++ ys ≡ with_at first (low ++ ys) n v
-store_low first low ys n v below = sym (with_at_within first low ys n v below)
+pub store_low : {A : Type 0} (first : A) (low xs : List A) (es : List (ℕ × A)) (n : ℕ) (v : A) → low ++ spread first (length low) es ≡ xs → n < length low
+    → set low n v ++ spread first (length (set low n v)) es ≡ with_at first xs n v
+store_low first low xs es n v shows below =
+    ap (λ k. set low n v ++ spread first k es) (length-set low n v)
+    ∙ sym (with_at_within first low (spread first (length low) es) n v below)
+    ∙ ap (λ zs. with_at first zs n v) shows
 
 -- a list that grows
-pub store_past : {A : Type 0} (first : A) (low new : List A) (es : List (ℕ × A)) (n : ℕ) (v : A) → IsSpaced dense es → length low ≤ n → n < dense → new ≡ with_at first low n v
+store_past : {A : Type 0} (first : A) (low new : List A) (es : List (ℕ × A)) (n : ℕ) (v : A) → IsSpaced dense es → length low ≤ n → n < dense → new ≡ with_at first low n v
     → new ++ spread first (length new) es ≡ with_at first (low ++ spread first (length low) es) n v
 store_past first low new es n v spaced past small e =
     let fill = replicate (n - length low) first in
@@ -245,18 +251,18 @@ length_store first low n v past =
     ap length (with_at_far first low n v past)
     ∙ omega (arith, length-append low (replicate (n - length low) first ++ v ∷ []), length-append (replicate (n - length low) first) (v ∷ []), length-replicate (n - length low) first)
 
-pub store_high : {A : Type 0} (first : A) (low : List A) (es : List (ℕ × A)) (n : ℕ) (v : A) → length low ≤ dense → IsSpaced dense es → length low ≤ n
+store_high : {A : Type 0} (first : A) (low : List A) (es : List (ℕ × A)) (n : ℕ) (v : A) → length low ≤ dense → IsSpaced dense es → length low ≤ n
     → low ++ spread first (length low) (insert_entry nat_cmp es n v) ≡ with_at first (low ++ spread first (length low) es) n v
 store_high first low es n v small spaced past =
     ap (λ zs. low ++ zs) (sym (set_spread first n (length low) es v (spaced_lower (length low) dense es spaced small) past))
     ∙ sym (with_at_past first low (spread first (length low) es) n (n - length low) v (omega arith))
 
-pub length_table : {A : Type 0} (first : A) (low : List A) (es : List (ℕ × A)) (p : ℕ × A) → length low ≤ dense → IsSpaced dense es → slice_get es (length es - 1) ≡ Some p → 0 < length es
-    → p.0 + 1 ≡ length (low ++ spread first (length low) es)
-length_table first low es p small spaced last some =
+pub length_table : {A : Type 0} (first : A) (low xs : List A) (es : List (ℕ × A)) (p : ℕ × A) → low ++ spread first (length low) es ≡ xs → length low ≤ dense → IsSpaced dense es
+    → slice_get es (length es - 1) ≡ Some p → 0 < length es → p.0 + 1 ≡ length xs
+length_table first low xs es p shows small spaced last some =
     let whole : length low + length (spread first (length low) es) ≡ p.0 + 1 =
     length_spread first (length low) (length es - 1) es p (spaced_lower (length low) dense es spaced small) (omega arith) last in
-    sym (length-append low (spread first (length low) es) ∙ whole)
+    sym (length-append low (spread first (length low) es) ∙ whole) ∙ ap length shows
 
 pub short_store : {A U E : Type 0} (r : Result U E) (first : A) (low new : List A) (n : ℕ) (v : A) → OnOk r (new ≡ with_at first low n v) → OnErr r (new ≡ low)
     → length low ≤ n → n < dense → length new ≤ dense
@@ -264,10 +270,10 @@ short_store (Ok u) first low new n v done stays past small = let e : length new 
 short_store (Err e) first low new n v done stays past small = let e : length new ≡ length low = ap length stays in omega arith
 
 -- what the list and the map show after a store into the list
-pub stored_past : {A U E : Type 0} (r : Result U E) (first : A) (low new : List A) (es : List (ℕ × A)) (n : ℕ) (v : A) → IsSpaced dense es → length low ≤ n → n < dense → OnOk r (new ≡ with_at first low n v)
-    → OnOk r (new ++ spread first (length new) es ≡ with_at first (low ++ spread first (length low) es) n v)
-stored_past (Ok u) first low new es n v spaced past small done = store_past first low new es n v spaced past small done
-stored_past (Err e) first low new es n v spaced past small done = tt
+pub stored_past : {A U E : Type 0} (r : Result U E) (first : A) (low new xs : List A) (es : List (ℕ × A)) (n : ℕ) (v : A) → low ++ spread first (length low) es ≡ xs → IsSpaced dense es → length low ≤ n → n < dense
+    → OnOk r (new ≡ with_at first low n v) → OnOk r (new ++ spread first (length new) es ≡ with_at first xs n v)
+stored_past r first low new xs es n v shows spaced past small =
+    on_ok_weaker r (λ (done : new ≡ with_at first low n v). store_past first low new es n v spaced past small done ∙ ap (λ zs. with_at first zs n v) shows)
 
 pub stays_past : {A U E : Type 0} (r : Result U E) (first : A) (low new : List A) (es : List (ℕ × A)) → OnErr r (new ≡ low)
     → OnErr r (new ++ spread first (length new) es ≡ low ++ spread first (length low) es)
@@ -280,11 +286,10 @@ pub spaced_store : {A U E : Type 0} (r : Result U E) (es new : List (ℕ × A)) 
 spaced_store (Ok u) es new n v spaced past done stays = rw done (spaced_insert n dense es v spaced past)
 spaced_store (Err e) es new n v spaced past done stays = rw stays spaced
 
-pub stored_high : {A U E : Type 0} (r : Result U E) (first : A) (low : List A) (es new : List (ℕ × A)) (n : ℕ) (v : A) → length low ≤ dense → IsSpaced dense es → length low ≤ n
-    → OnOk r (new ≡ insert_entry nat_cmp es n v) → OnOk r (low ++ spread first (length low) new ≡ with_at first (low ++ spread first (length low) es) n v)
-stored_high (Ok u) first low es new n v small spaced past done =
-    ap (λ xs. low ++ spread first (length low) xs) done ∙ store_high first low es n v small spaced past
-stored_high (Err e) first low es new n v small spaced past done = tt
+pub stored_high : {A U E : Type 0} (r : Result U E) (first : A) (low xs : List A) (es new : List (ℕ × A)) (n : ℕ) (v : A) → low ++ spread first (length low) es ≡ xs → length low ≤ dense → IsSpaced dense es → length low ≤ n
+    → OnOk r (new ≡ insert_entry nat_cmp es n v) → OnOk r (low ++ spread first (length low) new ≡ with_at first xs n v)
+stored_high r first low xs es new n v shows small spaced past =
+    on_ok_weaker r (λ (done : new ≡ insert_entry nat_cmp es n v). ap (λ ys. low ++ spread first (length low) ys) done ∙ store_high first low es n v small spaced past ∙ ap (λ zs. with_at first zs n v) shows)
 
 -- a list filled up to a place
 pub filled : {A : Type 0} (first : A) (low full new : List A) (n long : ℕ) (v : A) → long ≡ length low → length low ≤ n → full ≡ low ++ replicate (n - long) first → new ≡ full ++ v ∷ []

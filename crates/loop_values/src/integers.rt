@@ -8,6 +8,7 @@ use a95_base::wrap32;
 use loop_tree::Operator;
 
 /// What is left of the sum in 64 bits.
+#[tactic(auto, using(std::proofs::lemmas::Int::wrapping_add_is))]
 #[inline]
 pub fn sum(x: i64, y: i64) -> i64
     ensures { result ≡ int_wrap w64 (x +ℤ y) }
@@ -16,6 +17,7 @@ pub fn sum(x: i64, y: i64) -> i64
 }
 
 /// What is left of the difference in 64 bits.
+#[tactic(auto, using(std::proofs::lemmas::Int::wrapping_sub_is))]
 #[inline]
 pub fn difference(x: i64, y: i64) -> i64
     ensures { result ≡ int_wrap w64 (x -ℤ y) }

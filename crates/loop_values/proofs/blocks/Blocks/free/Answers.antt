@@ -1,25 +1,18 @@
-use Rattle.std.proofs.Common.{◌≡◌, false, true, ap, refl, sym, ◌∙◌, subst, Err}
-use Rattle.loop_tree.specs.State.{cells_at}
+use Rattle.std.proofs.Common.{ap, refl, sym, ◌∙◌}
 use Rattle.loop_tree.specs.Values.{is_live}
-use Rattle.loop_tree.specs.Machine.{freed}
-use Rattle.loop_values.specs.Heap.{Heap}
 use Rattle.loop_values.specs.Slots.{living}
 use Rattle.loop_values.proofs.Slots.{place_slot, dead_place, rising_without, free_place}
 use Rattle.loop_values.proofs.blocks.Blocks.free.Goals as goal
 
 pub returns-then-not-free_at-clause-live : goal.returns-then-not-free_at-clause-live
 returns-then-not-free_at-clause-live c =
-    let ks = c.self.inside.slots.items in
     let place = rw c.deref.ensures.value at c.place_of-at.ensures in
-    subst (λ (h : Heap). false ≡ is_live (cells_at h.blocks c.args.link)) c.self.view_is
-    (c.if-not-free_at.ensures.live ∙ ap is_live (sym (place_slot c.self.inside.made ks c.args.link c.place_of-at.result c.self.invariant place)))
+    c.if-not-free_at.ensures.live ∙ ap is_live (sym (place_slot c.self.view_is c.self.invariant place))
 
 pub returns-then-not-free_at-clause-err : goal.returns-then-not-free_at-clause-err
 returns-then-not-free_at-clause-err c =
-    let ks = c.self.inside.slots.items in
     let place = rw c.deref.ensures.value at c.place_of-at.ensures in
-    subst (λ (h : Heap). cells_at h.blocks c.args.link ≡ Err 2) c.self.view_is
-    (dead_place c.self.inside.made ks c.args.link c.place_of-at.result c.self.invariant place (sym c.if-not-free_at.ensures.live))
+    dead_place c.self.view_is c.self.invariant place (sym c.if-not-free_at.ensures.live)
 
 pub give_back-self-inside-requires : goal.give_back-self-inside-requires
 give_back-self-inside-requires c =
@@ -27,15 +20,11 @@ give_back-self-inside-requires c =
 
 pub returns-clause-ok : goal.returns-clause-ok
 returns-clause-ok c =
-    let ks = c.self.inside.slots.items in
     let place = rw c.deref.ensures.value at c.place_of-at.ensures in
-    subst (λ (h : Heap). living c.give_back-self-inside.new.slots.items ≡ freed h.blocks c.args.link) c.self.view_is
-    (c.give_back-self-inside.ensures.living ∙ ap living (c.if-not-free_at.ensures.freed refl)
-    ∙ free_place c.self.inside.made ks c.args.link c.place_of-at.result c.self.invariant place (sym c.if-not-free_at.ensures.live))
+    c.give_back-self-inside.ensures.living ∙ ap living (c.if-not-free_at.ensures.freed refl)
+    ∙ free_place c.self.view_is c.self.invariant place (sym c.if-not-free_at.ensures.live)
 
 pub returns-clause-live : goal.returns-clause-live
 returns-clause-live c =
-    let ks = c.self.inside.slots.items in
     let place = rw c.deref.ensures.value at c.place_of-at.ensures in
-    subst (λ (h : Heap). true ≡ is_live (cells_at h.blocks c.args.link)) c.self.view_is
-    (c.if-not-free_at.ensures.live ∙ ap is_live (sym (place_slot c.self.inside.made ks c.args.link c.place_of-at.result c.self.invariant place)))
+    c.if-not-free_at.ensures.live ∙ ap is_live (sym (place_slot c.self.view_is c.self.invariant place))

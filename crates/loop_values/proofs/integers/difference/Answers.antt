@@ -1,7 +1,0 @@
-use Rattle.std.proofs.Common.{rules}
-use Rattle.std.specs.Int.{w64}
-use Rattle.std.proofs.lemmas.Int.{wrapping_sub_is}
-use Rattle.loop_values.proofs.integers.difference.Goals as goal
-
-pub returns : goal.returns
-returns c = wrapping_sub_is w64 c.args.x c.args.y (search rules) (search rules)
