@@ -396,13 +396,13 @@ free_slot ks at k new below is number cells =
     ap (set ks at) same ∙ without_slot ks at k below
 
 -- a block that is made
-pub add_living : (ks : List Kept) (made more : ℕ) (cells : Option Cells) (k : Kept) → IsSome cells → k.number ≡ made → k.cells ≡ cells → more ≡ made + 1
-    → with_made (record { blocks = living ks; made = made }) (cells_or_stuck cells) ≡ Ok (record { blocks = living (ks ++ k ∷ []); made = more })
-add_living ks made more None k some number is e = cc some
-add_living ks made more (Some cells) k some number is e =
+pub add_living : {h : Heap} {made : ℕ} (ks : List Kept) (cells : Option Cells) (k : Kept) → record { blocks = living ks; made = made } ≡ h → IsSome cells → k.number ≡ made → k.cells ≡ cells
+    → with_made h (cells_or_stuck cells) ≡ Ok (record { blocks = living (ks ++ k ∷ []); made = made + 1 })
+add_living ks None k view some number is = cc some
+add_living {h} {made} ks (Some cells) k view some number is =
     let block : block_of k.number k.cells ≡ block_of made (Some cells) = ap (λ n. block_of n k.cells) number ∙ ap (block_of made) is in
     let blocks : living (ks ++ k ∷ []) ≡ block_of made (Some cells) ++ living ks = living-append ks (k ∷ []) ∙ ap (λ bs. bs ++ living ks) block in
-    ap (λ bs. Ok (record { blocks = bs; made = made + 1 })) (sym blocks) ∙ ap (λ n. Ok (record { blocks = living (ks ++ k ∷ []); made = n })) (sym e)
+    ap (λ (x : Heap). with_made x (Ok cells)) (sym view) ∙ ap (λ bs. Ok (record { blocks = bs; made = made + 1 })) (sym blocks)
 
 dead_is : (r : Result Cells ℕ) (o : Option Kept) → r ≡ slot_cells o → is_live (slot_cells o) ≡ false → r ≡ Err 2
 dead_is r None e h = e
