@@ -1,5 +1,5 @@
 //! The variables of one letter: those with small numbers in a list, the others in a map.
-ghost use Rattle.std.specs.Prelude.{◌≡◌, ◌≤◌, [], ◌∷◌, ◌++◌, length, get_or, replicate, take, unwrap_or, OnOk, OnErr};
+ghost use Rattle.std.specs.Prelude.{◌≡◌, ◌≤◌, [], ◌∷◌, ◌++◌, length, get_or, replicate, take, unwrap_or, IfSome, OnOk, OnErr};
 ghost use Rattle.std.specs.BTreeMap.{insert_entry, is_at};
 ghost use Rattle.std.specs.Map.{lookup};
 ghost use Rattle.std.specs.Option.{option_copied};
@@ -52,6 +52,14 @@ impl<T: First> Table<T> {
             low: Vec::new(alloc),
             high: BTreeMap::new(alloc),
         }
+    }
+
+    /// The value of a variable that stands in the list.
+    #[inline]
+    pub fn listed(&self, n: u32) -> Option<&T>
+        ensures { IfSome result (λ value. value.now ≡ get_or self.now n T.first) }
+    {
+        self.low.get(n as usize)
     }
 
     /// The value of a variable, or None, where it is its first value.

@@ -65,6 +65,18 @@ impl Numbers {
     pub fn get(&self, n: u32) -> i64
         ensures { result ≡ number_at self.now n }
     {
+        match self.table.listed(n) {
+            Some(value) => *value,
+            None => self.look_up(n),
+        }
+    }
+
+    // The same of a variable that stands in the list or not.
+    #[cold]
+    #[inline(never)]
+    fn look_up(&self, n: u32) -> i64
+        ensures { result ≡ number_at self.now n }
+    {
         match self.table.get(n) {
             Some(value) => *value,
             None => 0,
