@@ -20,8 +20,11 @@ module _ (functions : List Function) where
   pub reaches_none : (s : State) (bytes : Option (List ℕ)) → Reaches functions s 0 s bytes bytes
   reaches_none s bytes = record { told = []; leads = stays functions (trail 0 [] s); appended = Appends-nil bytes }
 
+  pub no_way : (s : State) → Leads functions (trail 0 [] s) (trail 0 [] s)
+  no_way s = stays functions (trail 0 [] s)
+
   -- the way of a step
-  one_way : (from to : State) (turn : Bool) (wrote : List ℕ) → step functions from ≡ Goes turn wrote to → Leads functions (trail 0 [] from) (trail (count_turn turn) wrote to)
+  pub one_way : (from to : State) (turn : Bool) (wrote : List ℕ) → step functions from ≡ Goes turn wrote to → Leads functions (trail 0 [] from) (trail (count_turn turn) wrote to)
   one_way from to true wrote e = steps_once functions (trail 0 [] from) (trail 1 wrote to) (ap (after (trail 0 [] from)) e)
   one_way from to false wrote e = steps_once functions (trail 0 [] from) (trail 0 wrote to) (ap (after (trail 0 [] from)) e)
 
@@ -35,8 +38,23 @@ module _ (functions : List Function) where
       joins functions (trail 0 [] from) (trail m told mid) (trail (m + n) (told ++ more) to) f
       (subst (λ (o : List ℕ). Leads functions (trail m o mid) (trail (m + n) (told ++ more) to)) (append-nil told) counted)
 
+  -- one step more on a way that told nothing
+  pub led_on : (from mid to : State) (turns : ℕ) (turn : Bool) → Leads functions (trail 0 [] from) (trail turns [] mid) → step functions mid ≡ Goes turn [] to →
+      Leads functions (trail 0 [] from) (trail (turns + count_turn turn) [] to)
+  led_on from mid to turns turn f e = then_way from mid to turns (count_turn turn) [] [] f (one_way mid to turn [] e)
+
+  -- and steps more that begin no turn
+  pub led_here : (from mid to : State) (turns : ℕ) → Leads functions (trail 0 [] from) (trail turns [] mid) → Leads functions (trail 0 [] mid) (trail 0 [] to) → Leads functions (trail 0 [] from) (trail turns [] to)
+  led_here from mid to turns f g =
+      let same : turns + 0 ≡ turns = omega arith in
+      subst (λ (k : ℕ). Leads functions (trail 0 [] from) (trail k [] to)) same (then_way from mid to turns 0 [] [] f g)
+
   pub reaches_then : (from mid to : State) (m n : ℕ) (old between new : Option (List ℕ)) → Reaches functions from m mid old between → Reaches functions mid n to between new → Reaches functions from (m + n) to old new
   reaches_then from mid to m n old between new f g = record { told = f.told ++ g.told; leads = then_way from mid to m n f.told g.told f.leads g.leads; appended = Appends-trans old between new f.told g.told f.appended g.appended }
+
+  -- and with a way that told nothing
+  pub reaches_led : (from mid to : State) (m n : ℕ) (old new : Option (List ℕ)) → Reaches functions from m mid old new → Leads functions (trail 0 [] mid) (trail n [] to) → Reaches functions from (m + n) to old new
+  reaches_led from mid to m n old new f g = reaches_then from mid to m n old new new f (record { told = []; leads = g; appended = Appends-nil new })
 
   pub passes_reach : (from to : State) (old new : Option (List ℕ)) → Passes functions from to old new → Reaches functions from 0 to old new
   passes_reach from to old new p = record { told = p.wrote; leads = one_way from to false p.wrote p.stepped; appended = p.appended }

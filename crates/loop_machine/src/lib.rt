@@ -11,6 +11,7 @@ mod rows;
 mod run;
 mod state;
 mod step;
+mod sweep;
 mod values;
 
 pub use end::End;

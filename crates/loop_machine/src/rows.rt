@@ -313,32 +313,17 @@ pub fn block_row(routines: &[Routine], core: &mut Core, row: &BlockRow, may: boo
             let link = core.active.text_blocks.get(*n);
             store_text(routines, core, link, at, value, may)
         }
-        BlockRow::New(n, a) => {
-            let count = atom(&core.active.ints, &core.active.indices, *a);
-            new_ints(routines, core, *n, count, may)
-        }
-        BlockRow::Temp(n, a) => {
-            let count = atom(&core.active.ints, &core.active.indices, *a);
-            new_ints(routines, core, *n, count, may)
-        }
-        BlockRow::Copy(n, a) => {
-            let count = atom(&core.active.ints, &core.active.indices, *a);
-            new_ints(routines, core, *n, count, may)
-        }
-        BlockRow::Mark(n, a) => {
-            let count = atom(&core.active.ints, &core.active.indices, *a);
-            new_ints(routines, core, *n, count, may)
-        }
+        BlockRow::New(n, a) | BlockRow::Temp(n, a) | BlockRow::Copy(n, a) | BlockRow::Mark(n, a) =>
+            {
+                let count = atom(&core.active.ints, &core.active.indices, *a);
+                new_ints(routines, core, *n, count, may)
+            }
         BlockRow::NewText(n, a, b) => {
             let count = atom(&core.active.ints, &core.active.indices, *a);
             let size = atom(&core.active.ints, &core.active.indices, *b);
             new_texts(routines, core, *n, count, size, may)
         }
-        BlockRow::TempText(n, a) => {
-            let count = atom(&core.active.ints, &core.active.indices, *a);
-            new_texts(routines, core, *n, count, 0, may)
-        }
-        BlockRow::CopyText(n, a) => {
+        BlockRow::TempText(n, a) | BlockRow::CopyText(n, a) => {
             let count = atom(&core.active.ints, &core.active.indices, *a);
             new_texts(routines, core, *n, count, 0, may)
         }

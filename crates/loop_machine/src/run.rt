@@ -12,6 +12,7 @@ use crate::quick::{next_row, next_turn};
 use crate::routine::Routine;
 use crate::state::{Came, Core, Move};
 use crate::step::step;
+use crate::sweep::sweep;
 use io_edge::{PutFault, Sink};
 use std::alloc::{AllocError, Global};
 
@@ -97,6 +98,16 @@ fn advance<K: Sink>(routines: &[Routine], core: &mut Core, may: bool, sink: &mut
     }
 }
 
+/// So many turns as can be counted in 64 bits.
+fn counted(turns: u128) -> u64
+    ensures { result ≤ turns }
+{
+    match u64::try_from(turns) {
+        Ok(turns) => turns,
+        Err(_) => u64::MAX,
+    }
+}
+
 /// Steps with so many turns. What comes of it is never a turn.
 #[inline(never)]
 pub fn go<K: Sink>(routines: &[Routine], core: &mut Core, turns: u128, sink: &mut K) -> Came
@@ -108,7 +119,11 @@ pub fn go<K: Sink>(routines: &[Routine], core: &mut Core, turns: u128, sink: &mu
     let mut left = turns;
     loop {
         match advance(routines, core, left > 0, sink) {
-            Came::Turn => left -= 1,
+            Came::Turn => {
+                left -= 1;
+                let used = sweep(routines, core, counted(left));
+                left -= u128::from(used);
+            }
             came => return came,
         }
     }

@@ -1,0 +1,30 @@
+-- The rows of a plan stand for the lines of a body.
+use Rattle.std.proofs.Common.{◌≡◌, ℕ, zero, suc, ◌+◌, ◌<◌, List, [], ◌∷◌, ◌++◌, length, Option, Some, ap, sym, subst, ◌∙◌}
+use Rattle.std.specs.Prelude.{slice_get, get_or}
+use Rattle.std.proofs.lemmas.Option.{slice_get-get_or}
+use Rattle.loop_tree.specs.declared.tree.CodeLine.{CodeLine}
+use Rattle.loop_tree.specs.declared.tree.CodeLine.TheVariants as code
+use Rattle.loop_machine.specs.declared.sweep.Planned.{Planned}
+use Rattle.loop_machine.specs.Plans.{row_of, IsLinked, Plans}
+
+-- an element of a list with one more behind
+behind : {A : Type 0} (P : ℕ → A → Type 0) (xs : List A) (x : A) → ((i : ℕ) (y : A) → slice_get xs i ≡ Some y → P i y) → P (length xs) x →
+    (i : ℕ) (y : A) → slice_get (xs ++ x ∷ []) i ≡ Some y → P i y
+behind P [] x all last zero y e = subst (λ z. P 0 z) (cc e) last
+behind P [] x all last (suc i) y e = absurd cc
+behind P (z ∷ xs) x all last zero y e = all zero y e
+behind P (z ∷ xs) x all last (suc i) y e = behind (λ j. P (suc j)) xs x (λ j w h. all (suc j) w h) last i y e
+
+pub no_rows : (references : List (Option ℕ)) (k : ℕ) (lines : List CodeLine) (from : ℕ) → Plans references k lines from []
+no_rows references k lines from zero p e = absurd cc
+no_rows references k lines from (suc i) p e = absurd cc
+
+pub one_more : (references : List (Option ℕ)) (k : ℕ) (lines : List CodeLine) (from : ℕ) (plan : List Planned) (p : Planned) → Plans references k lines from plan →
+    slice_get lines (from + length plan) ≡ Some (code.Row (row_of k p)) → IsLinked references p → Plans references k lines from (plan ++ p ∷ [])
+one_more references k lines from plan p all e linked =
+    behind (λ (i : ℕ) (q : Planned). (slice_get lines (from + i) ≡ Some (code.Row (row_of k q))) × IsLinked references q) plan p all (e, linked)
+
+-- the row at a place of the plan
+pub planned_at : (references : List (Option ℕ)) (k : ℕ) (lines : List CodeLine) (from : ℕ) (plan : List Planned) (i : ℕ) (p : Planned) → Plans references k lines from plan →
+    i < length plan → p ≡ get_or plan i p → (slice_get lines (from + i) ≡ Some (code.Row (row_of k p))) × IsLinked references p
+planned_at references k lines from plan i p all within e = all i p (slice_get-get_or plan i p within ∙ ap Some (sym e))

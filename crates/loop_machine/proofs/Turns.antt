@@ -1,0 +1,87 @@
+-- A turn of a loop that goes upward, from brace to brace.
+use Rattle.std.proofs.Common.{◌≡◌, ℕ, ◌+◌, ℤ, pos, Bool, true, false, List, [], ◌∷◌, drop, ap, sym, ◌∙◌}
+use Rattle.std.specs.Prelude.{◌+ℤ◌, map, slice_get, Some, Result, Ok, Err, int_lt}
+use Rattle.std.specs.Int.{w64, int_wrap}
+use Rattle.loop_tree.specs.declared.atom.Atom.{Atom}
+use Rattle.loop_tree.specs.declared.atom.Operator.TheVariants as operator
+use Rattle.loop_tree.specs.declared.row.IntValue.TheVariants as int
+use Rattle.loop_tree.specs.declared.row.Row.{Row}
+use Rattle.loop_tree.specs.declared.tree.CodeLine.{CodeLine}
+use Rattle.loop_tree.specs.declared.tree.CodeLine.TheVariants as code
+use Rattle.loop_tree.specs.declared.tree.Function.{Function}
+use Rattle.loop_tree.specs.State.{Brace, Upward, State, Next, Goes, Ends, with_at, with_rest, with_blocks, set_int, set_index}
+use Rattle.loop_tree.specs.Values.{number_at, block_at, atom_in, atom_of, int_value}
+use Rattle.loop_tree.specs.Machine.{rest_of, again, up_again, close_line, given, changed, store_int, change_line, int_line, block_line, row_line, do_line, step_at, step}
+use Rattle.loop_tree.specs.Run.{trail, Leads}
+use Rattle.loop_machine.specs.declared.state.Held.TheVariants as held
+use Rattle.loop_machine.specs.declared.state.Core.{Core}
+use Rattle.loop_machine.specs.declared.sweep.CellRow.TheVariants as cell
+use Rattle.loop_machine.specs.declared.sweep.Same.TheVariants as same
+use Rattle.loop_machine.specs.declared.sweep.Value.TheVariants as value
+use Rattle.loop_machine.specs.declared.sweep.Planned.{Planned}
+use Rattle.loop_machine.specs.declared.sweep.Planned.TheVariants as planned
+use Rattle.loop_machine.specs.Shown.{brace, lines_in, shown}
+use Rattle.loop_machine.specs.Plans.{atom_of_index, atom_of_operand, row_of, placed, LeavesRest}
+use Rattle.loop_machine.proofs.Exits.{drop_some}
+use Rattle.loop_machine.proofs.Ways.{one_way, led_here}
+
+-- what a closing brace does, where that of such a loop is the innermost
+closes : (functions : List Function) (s : State) (rest : List CodeLine) (k : ℕ) (bound : Atom) (body : List CodeLine) (outer : List Brace) →
+    s.now.rest ≡ code.Close ∷ rest → s.now.braces ≡ Upward k bound body ∷ outer →
+    step functions s ≡ up_again (set_index (with_rest s rest) k (int_wrap w64 (number_at s.now.indices k +ℤ pos 1))) k bound body outer
+unfolding step step_at do_line close_line
+closes functions s rest k bound body outer e f = ap (step_at functions s) e ∙ ap (close_line (with_rest s rest)) f
+
+pub begins_again : (functions : List Function) (core : Core) (k : ℕ) (bound : Atom) (body : ℕ) (next : ℤ) →
+    slice_get (lines_in functions core.active.routine) core.active.place ≡ Some code.Close →
+    core.active.held ≡ held.Upward k bound body ∷ rest_of core.active.held →
+    next ≡ int_wrap w64 (number_at core.active.indices k +ℤ pos 1) →
+    true ≡ int_lt (number_at (with_at (pos 0) core.active.indices k next) k) (atom_in core.active.ints (with_at (pos 0) core.active.indices k next) bound) →
+    step functions (shown functions core) ≡ Goes true [] (shown functions (record core { active = record core.active { place = body; indices = with_at (pos 0) core.active.indices k next } }))
+begins_again functions core k bound body next line top e below =
+    let lines = lines_in functions core.active.routine in
+    let s = with_rest (shown functions core) (drop (core.active.place + 1) lines) in
+    let outer = map (brace lines) (rest_of core.active.held) in
+    closes functions (shown functions core) (drop (core.active.place + 1) lines) k bound (drop body lines) outer (drop_some lines core.active.place code.Close line) (ap (map (brace lines)) top) ∙
+    ap (λ (v : ℤ). up_again (set_index s k v) k bound (drop body lines) outer) (sym e) ∙ ap (λ (goes : Bool). again (set_index s k next) goes (drop body lines) outer) (sym below)
+
+-- ---- a row of the body
+
+row_step : (functions : List Function) (core : Core) (place : ℕ) (r : Row) → slice_get (lines_in functions core.active.routine) place ≡ Some (code.Row r) →
+    step functions (shown functions (placed core place)) ≡ row_line functions (shown functions (placed core (place + 1))) r
+unfolding step step_at do_line
+row_step functions core place r e = ap (step_at functions (shown functions (placed core place))) (drop_some (lines_in functions core.active.routine) place (code.Row r) e)
+
+abbrev state_of : State → Next → State
+state_of s (Goes turn wrote to) = to
+state_of s (Ends how) = s
+
+-- what is done with a value, in a state that differs in its rest
+moved_given : {A : Type 0} (found : Result A ℕ) (next : A → State) (to : State) (rest : List CodeLine) → given found next ≡ Goes false [] to →
+    given found (λ a. with_rest (next a) rest) ≡ Goes false [] (with_rest to rest)
+moved_given (Ok a) next to rest e = ap (λ (s : State). Goes false [] (with_rest s rest)) (ap (state_of to) e)
+moved_given (Err why) next to rest e = absurd cc
+
+-- such a row does the same whatever the rest is
+moved : (functions : List Function) (s to : State) (rest : List CodeLine) (k : ℕ) (p : Planned) → row_line functions s (row_of k p) ≡ Goes false [] to →
+    row_line functions (with_rest s rest) (row_of k p) ≡ Goes false [] (with_rest to rest)
+unfolding row_line int_line block_line change_line int_value
+moved functions s to rest k (planned.Cell (cell.Load n m at link)) e = moved_given (int_value s (int.Cell m (atom_of_index k at))) (set_int s n) to rest e
+moved functions s to rest k (planned.Cell (cell.Store m at from link)) e = moved_given (changed s.blocks (block_at s.now.int_blocks m) (store_int (atom_of s (atom_of_index k at)) (atom_of s (atom_of_operand from)))) (with_blocks s) to rest e
+moved functions s to rest k (planned.Set n (value.Same (same.Atom a))) e = moved_given (int_value s (int.Atom (atom_of_operand a))) (set_int s n) to rest e
+moved functions s to rest k (planned.Set n (value.Same (same.Wrap a))) e = moved_given (int_value s (int.Wrap (atom_of_operand a))) (set_int s n) to rest e
+moved functions s to rest k (planned.Set n (value.Operation a op b)) e = moved_given (int_value s (int.Operation (atom_of_operand a) op (atom_of_operand b))) (set_int s n) to rest e
+moved functions s to rest k (planned.Set n (value.Sum a b)) e = moved_given (int_value s (int.Operation (atom_of_operand a) operator.Add (atom_of_operand b))) (set_int s n) to rest e
+
+-- and the way goes on with it
+pub row_leads : (functions : List Function) (from : State) (old new : Core) (turns place k : ℕ) (p : Planned) → Leads functions (trail 0 [] from) (trail turns [] (shown functions (placed old place))) →
+    slice_get (lines_in functions old.active.routine) place ≡ Some (code.Row (row_of k p)) → LeavesRest old new →
+    row_line functions (shown functions old) (row_of k p) ≡ Goes false [] (shown functions new) →
+    Leads functions (trail 0 [] from) (trail turns [] (shown functions (placed new (place + 1))))
+row_leads functions from old new turns place k p led line rest e =
+    let behind = drop (place + 1) (lines_in functions old.active.routine) in
+    let same : with_rest (shown functions new) behind ≡ shown functions (placed new (place + 1)) =
+    ap (λ (routine : ℕ). with_rest (shown functions new) (drop (place + 1) (lines_in functions routine))) (sym (ap (λ (core : Core). core.active.routine) rest)) in
+    led_here functions from (shown functions (placed old place)) (shown functions (placed new (place + 1))) turns led
+    (one_way functions (shown functions (placed old place)) (shown functions (placed new (place + 1))) false []
+    (row_step functions old place (row_of k p) line ∙ moved functions (shown functions old) (shown functions new) behind k p e ∙ ap (Goes false []) same))
