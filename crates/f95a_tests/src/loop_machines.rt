@@ -456,6 +456,124 @@ fn each_stuck_state_has_its_number(rt: HostRuntime) -> Result<(), Fail> {
     Ok(())
 }
 
+/// Loops of many turns over rows alone, among them some that stop within a turn, and such as have other lines. What they come to was
+/// found by another reader of LoopC.
+const SWEEPS: [(&str, End, &str); 15] = [
+    (
+        "b0 = f_new(40);\nfor (k1 = 0; k1 < 40; k1 = k1 + 1) {\ni0 = b0[k1];\ni0 = i0 + k1;\nb0[k1] = i0;\n}\ni1 = b0[39];\nf_put_int(i0);\nf_put_int(i1);\nf_put_int(k1);\nf_record();\n",
+        End::Ended,
+        " 39 39 40\n",
+    ),
+    (
+        "b0 = f_new(20);\nfor (k1 = 0; k1 < 40; k1 = k1 + 1) {\nb0[k1] = 1;\n}\nf_put_int(i0);\nf_record();\n",
+        End::Stuck(1),
+        "",
+    ),
+    (
+        "for (k1 = 0; k1 < 40; k1 = k1 + 1) {\ni1 = 20 - k1;\ni0 = 100 / i1;\n}\nf_put_int(i0);\nf_record();\n",
+        End::Stuck(3),
+        "",
+    ),
+    (
+        "i9 = 100;\nfor (k1 = 0; k1 < i9; k1 = k1 + 1) {\ni9 = i9 - 1;\ni0 = i0 + 1;\n}\nf_put_int(i0);\nf_put_int(i9);\nf_put_int(k1);\nf_record();\n",
+        End::Ended,
+        " 50 50 50\n",
+    ),
+    (
+        "for (k1 = 0; k1 < 30; k1 = k1 + 1) {\ni2 = k1 * 1000000007;\ni2 = f_wrap(i2);\ni3 = i3 | i2;\ni4 = i2 % 1000;\ni5 = i5 + i4;\ni6 = i4 < 0;\ni7 = i7 + i6;\ni8 = i2;\n}\nf_put_int(i2);\nf_put_int(i3);\nf_put_int(i5);\nf_put_int(i7);\nf_put_int(i8);\nf_record();\n",
+        End::Ended,
+        " -1064770869 -257 149 14 -1064770869\n",
+    ),
+    (
+        "b0 = f_new(900);\nfor (k2 = 0; k2 < 30; k2 = k2 + 1) {\ni1 = k2 * 30;\nfor (k1 = 0; k1 < k2; k1 = k1 + 1) {\ni2 = i1 + k1;\nb0[i2] = k2;\n}\n}\nfor (k1 = 0; k1 < 900; k1 = k1 + 1) {\ni3 = b0[k1];\ni4 = i4 * 7;\ni4 = i4 + i3;\ni4 = f_wrap(i4);\n}\nf_put_int(i4);\nf_put_int(k1);\nf_put_int(k2);\nf_record();\n",
+        End::Ended,
+        " -440505185 900 30\n",
+    ),
+    (
+        "for (k1 = 0; k1 < 20; k1 = k1 + 1) {\ni70000 = i70000 + k1;\ni5 = k1;\n}\nf_put_int(i70000);\nf_put_int(i5);\nf_put_int(i69999);\nf_record();\n",
+        End::Ended,
+        " 190 19 0\n",
+    ),
+    (
+        "b0 = f_new(16);\nb1 = b0;\nfor (k1 = 0; k1 < 16; k1 = k1 + 1) {\nb1[k1] = k1;\ni0 = b0[15];\ni0 = b0[k1];\ni1 = i1 + i0;\n}\nf_put_int(i1);\nf_put_int(i0);\nf_record();\n",
+        End::Ended,
+        " 120 15\n",
+    ),
+    (
+        "b0 = f_new(17);\nb0[0] = 1;\nfor (k1 = 0; k1 < 16; k1 = k1 + 1) {\ni0 = b0[k1];\ni1 = k1 + 1;\ni0 = i0 * 3;\nb0[i1] = i0;\n}\ni0 = b0[16];\nf_put_int(i0);\nf_record();\n",
+        End::Ended,
+        " 43046721\n",
+    ),
+    (
+        "for (k1 = 0; k1 < 20; k1 = k1 + 1) {\ni0 = b0[k1];\n}\nf_put_int(i0);\nf_record();\n",
+        End::Stuck(2),
+        "",
+    ),
+    (
+        "b0 = f_new(20);\nfor (k1 = 0; k1 < 20; k1 = k1 + 1) {\nb0[k1] = k1;\nf_free(b0);\n}\n",
+        End::Stuck(2),
+        "",
+    ),
+    (
+        "for (k1 = 0; k1 < 20; k1 = k1 + 1) {\ni0 = i0 + 1;\nif (i0) {\ni1 = i1 + k1;\n}\n}\nf_put_int(i0);\nf_put_int(i1);\nf_record();\n",
+        End::Ended,
+        " 20 190\n",
+    ),
+    (
+        "for (k1 = 0; k1 < 20; k1 = k1 + 1) {\n}\nf_put_int(k1);\nf_record();\n",
+        End::Ended,
+        " 20\n",
+    ),
+    (
+        "for (k1 = 0; k1 < 20; k1 = k1 + 1) {\nfor (k1 = 0; k1 < 30; k1 = k1 + 1) {\ni0 = i0 + k1;\n}\n}\nf_put_int(i0);\nf_put_int(k1);\nf_record();\n",
+        End::Ended,
+        " 435 31\n",
+    ),
+    (
+        "i0 = 9223372036854775807;\nfor (k1 = 0; k1 < 17; k1 = k1 + 1) {\ni0 = i0 + i0;\ni0 = i0 - k1;\n}\nf_put_int(i0);\nf_put_int(k1);\nf_record();\n",
+        End::Ended,
+        " -262126 17\n",
+    ),
+];
+
+#[test]
+fn loops_of_many_turns_are_obeyed(rt: HostRuntime) -> Result<(), Fail> {
+    assert_eq!(rt; first_wrong(rt.alloc(), &SWEEPS, "", "")?, None);
+    Ok(())
+}
+
+const MANY: &str =
+    "for (k1 = 0; k1 < 40; k1 = k1 + 1) {\ni0 = i0 + k1;\n}\nf_put_int(i0);\nf_record();\n";
+
+#[test]
+fn a_loop_of_many_turns_waits_for_more(rt: HostRuntime) -> Result<(), Fail> {
+    let text = text_of(rt.alloc(), MANY, "")?;
+    for first in [0, 1, 2, 17, 39] {
+        let parts = [
+            Part {
+                turns: first,
+                end: End::TurnLimit,
+                written: b"",
+            },
+            Part {
+                turns: 39 - first,
+                end: End::TurnLimit,
+                written: b"",
+            },
+            Part {
+                turns: 1,
+                end: End::Ended,
+                written: b" 780\n",
+            },
+        ];
+        assert!(rt;
+            goes(rt.alloc(), text.as_slice(), b"", &[], &parts, 0)?,
+            "{first} turns"
+        );
+    }
+    Ok(())
+}
+
 const LOOP: &str =
     "for (k1 = 0; k1 < 5; k1 = k1 + 1) {\nf_put_int(k1);\nf_record();\n}\nf2(1);\nf_record();\n";
 
