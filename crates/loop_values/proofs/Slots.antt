@@ -60,11 +60,6 @@ rising_from low top (k ∷ ks) zero d h below = h.0
 rising_from low top (k ∷ ks) (suc i) d h below =
     let rest : k.number + 1 ≤ (get_or ks i d).number = rising_from (k.number + 1) top ks i d h.1 (omega arith) in omega (arith, h.0)
 
-pub rising_below : (low top : ℕ) (ks : List Kept) (i : ℕ) (d : Kept) → IsRising low top ks → i < length ks → (get_or ks i d).number < top
-rising_below low top [] i d h below = absurd (omega arith)
-rising_below low top (k ∷ ks) zero d h below = let rest : k.number + 1 ≤ top = rising_le (k.number + 1) top ks h.1 in omega arith
-rising_below low top (k ∷ ks) (suc i) d h below = rising_below (k.number + 1) top ks i d h.1 (omega arith)
-
 pub rising_pairs : (low top : ℕ) (ks : List Kept) (i j : ℕ) (d : Kept) → IsRising low top ks → i ≤ j → j < length ks → (get_or ks i d).number ≤ (get_or ks j d).number
 rising_pairs low top [] i j d h order below = absurd (omega arith)
 rising_pairs low top (k ∷ ks) zero zero d h order below = omega arith
@@ -81,10 +76,6 @@ rising_push low top (x ∷ ks) k h e = (h.0, rising_push (x.number + 1) top ks k
 pub rising_last : (low top : ℕ) (ks : List Kept) (k : Kept) → IsRising low top (ks ++ k ∷ []) → IsRising low k.number ks
 rising_last low top [] k h = h.0
 rising_last low top (x ∷ ks) k h = (h.0, rising_last (x.number + 1) top ks k h.1)
-
-pub rising_higher : (low top more : ℕ) (ks : List Kept) → IsRising low top ks → top ≤ more → IsRising low more ks
-rising_higher low top more [] h e = omega arith
-rising_higher low top more (k ∷ ks) h e = (h.0, rising_higher (k.number + 1) top more ks h.1 e)
 
 pub rising_lower : (less low top : ℕ) (ks : List Kept) → IsRising low top ks → less ≤ low → IsRising less top ks
 rising_lower less low top [] h e = omega arith
@@ -250,15 +241,6 @@ no_place ks n h = record {
   none = λ past. cells_of_number (living ks) n None (numbered_lacks n (living ks) (lacks_missed n ks h));
 }
 
-pub some_place : (ks : List Kept) (n at : ℕ) → at < length ks → ((d : Kept) → (get_or ks at d).number ≡ n) → IsPlace ks (Some n) at
-some_place ks n at below h = record {
-  found = λ d within. ap Some (sym (h d));
-  none = λ past. absurd (omega arith);
-}
-
-pub no_link : (ks : List Kept) → IsPlace ks None (length ks)
-no_link ks = record { found = λ d below. absurd (omega arith); none = λ past. refl }
-
 -- ---- other cells of one slot
 
 change_all : (top : ℕ) (ks : List Kept) (at : ℕ) (d : Kept) (f : Cells → Result Cells ℕ) (cells : Option Cells) → IsRising 0 top ks → at < length ks
@@ -284,13 +266,6 @@ changed_blocks {h} {top} {ks} {link} {at} {k} f view rises place below is =
     ∙ ap (λ l. changed (living ks) l f) (place.found k below)
     ∙ change_all top ks at k f (get_or ks at k).cells rises below refl
     ∙ ap (λ x. and_then (changed_slot x f) (λ new. Ok (living (set ks at new)))) (sym is)
-
-changed_cells_none : (bs : List Block) (link : Option ℕ) (f : Cells → Result Cells ℕ) → cells_at bs link ≡ Err 2 → changed bs link f ≡ Err 2
-changed_cells_none bs None f e = refl
-changed_cells_none bs (Some n) f e = ap (λ r. and_then r (λ cells. and_then (f cells) (λ new. Ok (with_cells bs n new)))) e
-
-pub change_none : (ks : List Kept) (link : Option ℕ) (at : ℕ) (f : Cells → Result Cells ℕ) → IsPlace ks link at → length ks ≤ at → changed (living ks) link f ≡ Err 2
-change_none ks link at f place past = changed_cells_none (living ks) link f (place.none past)
 
 -- ---- the end of the slots
 

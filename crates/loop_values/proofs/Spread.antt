@@ -215,9 +215,6 @@ length_spread first at (suc i) (e ∷ f ∷ es) p h last is =
 
 -- ---- a list and the entries behind it, which show the values xs
 
-pub read_low : {A : Type 0} (first : A) (low ys : List A) (n : ℕ) → n < length low → get_or low n first ≡ get_or (low ++ ys) n first
-read_low first low ys n below = sym (get_or_append_left low ys first n below)
-
 pub read_high : {A : Type 0} (first : A) (low xs : List A) (es : List (ℕ × A)) (n : ℕ) → low ++ spread first (length low) es ≡ xs → length low ≤ dense → IsSpaced dense es → length low ≤ n
     → unwrap_or (lookup (is_at (nat_cmp n)) es) first ≡ get_or xs n first
 read_high first low xs es n shows small spaced past =
@@ -274,11 +271,6 @@ pub stored_past : {A U E : Type 0} (r : Result U E) (first : A) (low new xs : Li
     → OnOk r (new ≡ with_at first low n v) → OnOk r (new ++ spread first (length new) es ≡ with_at first xs n v)
 stored_past r first low new xs es n v shows spaced past small =
     on_ok_weaker r (λ (done : new ≡ with_at first low n v). store_past first low new es n v spaced past small done ∙ ap (λ zs. with_at first zs n v) shows)
-
-pub stays_past : {A U E : Type 0} (r : Result U E) (first : A) (low new : List A) (es : List (ℕ × A)) → OnErr r (new ≡ low)
-    → OnErr r (new ++ spread first (length new) es ≡ low ++ spread first (length low) es)
-stays_past (Ok u) first low new es stays = tt
-stays_past (Err e) first low new es stays = ap (λ xs. xs ++ spread first (length xs) es) stays
 
 -- and after a store into the map
 pub spaced_store : {A U E : Type 0} (r : Result U E) (es new : List (ℕ × A)) (n : ℕ) (v : A) → IsSpaced dense es → dense ≤ n → OnOk r (new ≡ insert_entry nat_cmp es n v) → OnErr r (new ≡ es)
