@@ -545,31 +545,31 @@ fn loops_of_many_turns_are_obeyed(rt: HostRuntime) -> Result<(), Fail> {
 const MANY: &str =
     "for (k1 = 0; k1 < 40; k1 = k1 + 1) {\ni0 = i0 + k1;\n}\nf_put_int(i0);\nf_record();\n";
 
+/// A part that waits for more turns, before anything is written.
+fn limit(turns: u128) -> Part {
+    Part {
+        turns,
+        end: End::TurnLimit,
+        written: b"",
+    }
+}
+
+/// Whether a run in parts, of which the first has so many turns and the last only one, comes to its end with the last.
+fn waits_for_more(alloc: Global, first: u128) -> Result<bool, Fail> {
+    let text = text_of(alloc, MANY, "")?;
+    let last = Part {
+        turns: 1,
+        end: End::Ended,
+        written: b" 780\n",
+    };
+    let parts = [limit(first), limit(39u128.saturating_sub(first)), last];
+    goes(alloc, text.as_slice(), b"", &[], &parts, 0)
+}
+
 #[test]
 fn a_loop_of_many_turns_waits_for_more(rt: HostRuntime) -> Result<(), Fail> {
-    let text = text_of(rt.alloc(), MANY, "")?;
     for first in [0, 1, 2, 17, 39] {
-        let parts = [
-            Part {
-                turns: first,
-                end: End::TurnLimit,
-                written: b"",
-            },
-            Part {
-                turns: 39 - first,
-                end: End::TurnLimit,
-                written: b"",
-            },
-            Part {
-                turns: 1,
-                end: End::Ended,
-                written: b" 780\n",
-            },
-        ];
-        assert!(rt;
-            goes(rt.alloc(), text.as_slice(), b"", &[], &parts, 0)?,
-            "{first} turns"
-        );
+        assert!(rt; waits_for_more(rt.alloc(), first)?, "{first} turns");
     }
     Ok(())
 }
