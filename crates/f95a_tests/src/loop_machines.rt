@@ -466,12 +466,12 @@ const SWEEPS: [(&str, End, &str); 15] = [
     ),
     (
         "b0 = f_new(20);\nfor (k1 = 0; k1 < 40; k1 = k1 + 1) {\nb0[k1] = 1;\n}\nf_put_int(i0);\nf_record();\n",
-        End::Stuck(1),
+        End::Stuck { why: 1 },
         "",
     ),
     (
         "for (k1 = 0; k1 < 40; k1 = k1 + 1) {\ni1 = 20 - k1;\ni0 = 100 / i1;\n}\nf_put_int(i0);\nf_record();\n",
-        End::Stuck(3),
+        End::Stuck { why: 3 },
         "",
     ),
     (
@@ -506,12 +506,12 @@ const SWEEPS: [(&str, End, &str); 15] = [
     ),
     (
         "for (k1 = 0; k1 < 20; k1 = k1 + 1) {\ni0 = b0[k1];\n}\nf_put_int(i0);\nf_record();\n",
-        End::Stuck(2),
+        End::Stuck { why: 2 },
         "",
     ),
     (
         "b0 = f_new(20);\nfor (k1 = 0; k1 < 20; k1 = k1 + 1) {\nb0[k1] = k1;\nf_free(b0);\n}\n",
-        End::Stuck(2),
+        End::Stuck { why: 2 },
         "",
     ),
     (
