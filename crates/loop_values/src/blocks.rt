@@ -1,4 +1,4 @@
-ghost use Rattle.std.specs.Prelude.{◌≡◌, ◌≤◌, pos, [], IfOk, IfErr, IsSome, IsTrue, OnOk, OnErr, is_ok, false, filter, length, slice_get, take};
+ghost use Rattle.std.specs.Prelude.{◌≡◌, ◌≤◌, ◌<◌, pos, [], IfOk, IfErr, IfSome, Some, IsSome, IsTrue, OnOk, OnErr, is_ok, false, filter, length, slice_get, take};
 ghost use Rattle.std.specs.Option.{option_copied};
 ghost use Rattle.loop_tree.specs.State.{cells_at, cells_or_stuck, made_before};
 ghost use Rattle.loop_tree.specs.Values.{and_then, ints_at, texts_at, int_cell, text_cell, cell_count, grown, is_live, zeros, texts_of_length};
@@ -70,6 +70,20 @@ impl Blocks {
         }
     }
 
+    /// Cell i of a block of integers, where the block is where it was when the reference was made.
+    #[inline(always)]
+    pub fn cell_at_hand(&self, link: &Link, i: i64) -> Option<i64>
+        ensures { IfSome result (λ value. and_then (ints_at self.now.blocks (Some link.now)) (λ cells. int_cell cells i) ≡ Ok value) }
+    {
+        let Some(slot) = slot_at_hand(&self.slots, self.made, link) else {
+            return None;
+        };
+        match slot.int_cell(i) {
+            Ok(value) => Some(value),
+            Err(_) => None,
+        }
+    }
+
     /// Cell i of a block of texts. Err(2): there is no such block. Err(1): the block has no such cell.
     #[inline]
     pub fn text_cell(&self, link: Option<Link>, i: i64) -> Result<&[u8], u8>
@@ -123,6 +137,20 @@ impl Blocks {
             return Err(2);
         }
         self.slots[at].store_int(i, value)
+    }
+
+    /// Sets cell i of a block of integers, where the block is where it was when the reference was made. Answers whether
+    /// it did.
+    #[inline(always)]
+    pub fn store_at_hand(&mut self, link: &Link, i: i64, value: i64) -> bool
+        ensures set { IsTrue result → changed self.old.blocks (Some link.now) (store_int i value) ≡ Ok self.new.blocks }
+        ensures made { self.new.made ≡ self.old.made }
+        ensures stays { result ≡ false → self.new ≡ self.old }
+    {
+        let Some(at) = place_at_hand(&self.slots, link) else {
+            return false;
+        };
+        self.slots[at].store_int(i, value).is_ok()
     }
 
     /// Sets cell i of a block of texts. Err(2): there is no such block. Err(1): the block has no such cell.
@@ -240,14 +268,37 @@ fn place_of(slots: &[Slot], made: u64, link: &Option<Link>) -> usize
     ensures { IsPlace slots.now link.now result }
 {
     match link {
-        Some(link) => {
-            let hint = link.hint();
-            if hint < slots.len() && slots[hint].number() == link.number() {
-                return hint;
-            }
-            search(slots, made, link.number())
-        }
+        Some(link) => match place_at_hand(slots, link) {
+            Some(at) => at,
+            None => search(slots, made, link.number()),
+        },
         None => slots.len(),
+    }
+}
+
+// The place of the slot that a reference leads to, where that is where it was when the reference was made.
+#[inline(always)]
+fn place_at_hand(slots: &[Slot], link: &Link) -> Option<usize>
+    ensures place { IfSome result (λ at. IsPlace slots.now (Some link.now) at) }
+    ensures within { IfSome result (λ at. at < length slots.now) }
+{
+    let hint = link.hint();
+    if hint < slots.len() && slots[hint].number() == link.number() {
+        return Some(hint);
+    }
+    None
+}
+
+// That slot.
+#[inline(always)]
+fn slot_at_hand<'a>(slots: &'a [Slot], made: u64, link: &Link) -> Option<&'a Slot>
+    requires { IsRising 0 made slots.now }
+    ensures { IsSome result → cells_at (living slots.entry.now) (Some link.now) ≡ slot_cells (option_copied result) }
+{
+    let _ = made;
+    match place_at_hand(slots, link) {
+        Some(at) => nth(slots, at),
+        None => None,
     }
 }
 

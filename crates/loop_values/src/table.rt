@@ -1,5 +1,5 @@
 //! The variables of one letter: those with small numbers in a list, the others in a map.
-ghost use Rattle.std.specs.Prelude.{◌≡◌, ◌≤◌, [], ◌∷◌, ◌++◌, length, get_or, replicate, take, unwrap_or, IfSome, OnOk, OnErr};
+ghost use Rattle.std.specs.Prelude.{◌≡◌, ◌≤◌, [], ◌∷◌, ◌++◌, length, get_or, replicate, take, unwrap_or, IsTrue, false, IfSome, OnOk, OnErr};
 ghost use Rattle.std.specs.BTreeMap.{insert_entry, is_at};
 ghost use Rattle.std.specs.Map.{lookup};
 ghost use Rattle.std.specs.Option.{option_copied};
@@ -71,6 +71,20 @@ impl<T: First> Table<T> {
             Some(value) => Some(value),
             None => look_up(&self.high, n),
         }
+    }
+
+    /// Sets a variable that stands in the list, and answers whether it does.
+    #[inline(always)]
+    pub fn set_listed(&mut self, n: u32, value: T) -> bool
+        ensures set { IsTrue result → self.new ≡ with_at T.first self.old n value }
+        ensures stays { result ≡ false → self.new ≡ self.old }
+    {
+        let at = n as usize;
+        if at >= self.low.len() {
+            return false;
+        }
+        self.low[at] = value;
+        true
     }
 
     #[inline]

@@ -1,5 +1,5 @@
 //! The variables of a call, one container for each kind of value.
-ghost use Rattle.std.specs.Prelude.{◌≡◌, [], ◌∷◌, ◌++◌, pos, None, OnOk, OnErr};
+ghost use Rattle.std.specs.Prelude.{◌≡◌, [], ◌∷◌, ◌++◌, pos, None, IsTrue, false, IfSome, OnOk, OnErr};
 ghost use Rattle.loop_tree.specs.State.{with_at};
 ghost use Rattle.loop_tree.specs.Values.{number_at, text_at, block_at};
 
@@ -89,6 +89,26 @@ impl Numbers {
         ensures err { OnErr result (self.new ≡ self.old) }
     {
         self.table.set(n, value)
+    }
+
+    /// The value of variable n where it is at hand, as that of a small variable that was set.
+    #[inline(always)]
+    pub fn at_hand(&self, n: u32) -> Option<i64>
+        ensures { IfSome result (λ value. value ≡ number_at self.now n) }
+    {
+        match self.table.listed(n) {
+            Some(value) => Some(*value),
+            None => None,
+        }
+    }
+
+    /// Sets variable n where it is at hand, and answers whether it is.
+    #[inline(always)]
+    pub fn set_at_hand(&mut self, n: u32, value: i64) -> bool
+        ensures set { IsTrue result → self.new ≡ with_at (pos 0) self.old n value }
+        ensures stays { result ≡ false → self.new ≡ self.old }
+    {
+        self.table.set_listed(n, value)
     }
 
     /// Sets the variable behind the last one.
