@@ -1,7 +1,6 @@
 -- The rows of a plan stand for the lines of a body.
-use Rattle.std.proofs.Common.{◌≡◌, ℕ, zero, suc, ◌+◌, ◌<◌, List, [], ◌∷◌, ◌++◌, length, Option, Some, ap, sym, subst, ◌∙◌}
-use Rattle.std.specs.Prelude.{slice_get, get_or}
-use Rattle.std.proofs.lemmas.Option.{slice_get-get_or}
+use Rattle.std.proofs.Common.{◌≡◌, ℕ, zero, suc, ◌+◌, List, [], ◌∷◌, ◌++◌, drop, length, Option, Some, subst}
+use Rattle.std.specs.Prelude.{slice_get}
 use Rattle.loop_tree.specs.declared.tree.CodeLine.{CodeLine}
 use Rattle.loop_tree.specs.declared.tree.CodeLine.TheVariants as code
 use Rattle.loop_machine.specs.declared.sweep.Planned.{Planned}
@@ -24,7 +23,13 @@ pub one_more : (references : List (Option ℕ)) (k : ℕ) (lines : List CodeLine
 one_more references k lines from plan p all e linked =
     behind (λ (i : ℕ) (q : Planned). (slice_get lines (from + i) ≡ Some (code.Row (row_of k q))) × IsLinked references q) plan p all (e, linked)
 
--- the row at a place of the plan
-pub planned_at : (references : List (Option ℕ)) (k : ℕ) (lines : List CodeLine) (from : ℕ) (plan : List Planned) (i : ℕ) (p : Planned) → Plans references k lines from plan →
-    i < length plan → p ≡ get_or plan i p → (slice_get lines (from + i) ≡ Some (code.Row (row_of k p))) × IsLinked references p
-planned_at references k lines from plan i p all within e = all i p (slice_get-get_or plan i p within ∙ ap Some (sym e))
+get_first : {A : Type 0} (xs : List A) (i : ℕ) (x : A) (ys : List A) → drop i xs ≡ x ∷ ys → slice_get xs i ≡ Some x
+get_first [] zero x ys e = absurd cc
+get_first [] (suc i) x ys e = absurd cc
+get_first (z ∷ xs) zero x ys e = cc
+get_first (z ∷ xs) (suc i) x ys e = get_first xs i x ys e
+
+-- the first row of the part of the plan from a place on
+pub first_at : (references : List (Option ℕ)) (k : ℕ) (lines : List CodeLine) (from : ℕ) (plan : List Planned) (i : ℕ) (p : Planned) (more : List Planned) → Plans references k lines from plan →
+    drop i plan ≡ p ∷ more → (slice_get lines (from + i) ≡ Some (code.Row (row_of k p))) × IsLinked references p
+first_at references k lines from plan i p more all e = all i p (get_first plan i p more e)

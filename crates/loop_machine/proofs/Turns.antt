@@ -3,6 +3,7 @@ use Rattle.std.proofs.Common.{◌≡◌, ℕ, ◌+◌, ℤ, pos, Bool, true, fal
 use Rattle.std.specs.Prelude.{◌+ℤ◌, map, slice_get, Some, Result, Ok, Err, int_lt}
 use Rattle.std.specs.Int.{w64, int_wrap}
 use Rattle.loop_tree.specs.declared.atom.Atom.{Atom}
+use Rattle.loop_tree.specs.declared.atom.Atom.TheVariants as atom
 use Rattle.loop_tree.specs.declared.atom.Operator.TheVariants as operator
 use Rattle.loop_tree.specs.declared.row.IntValue.TheVariants as int
 use Rattle.loop_tree.specs.declared.row.Row.{Row}
@@ -16,12 +17,14 @@ use Rattle.loop_tree.specs.Run.{trail, Leads}
 use Rattle.loop_machine.specs.declared.state.Held.TheVariants as held
 use Rattle.loop_machine.specs.declared.state.Core.{Core}
 use Rattle.loop_machine.specs.declared.sweep.CellRow.TheVariants as cell
+use Rattle.loop_machine.specs.declared.sweep.Frequent.TheVariants as frequent
 use Rattle.loop_machine.specs.declared.sweep.Same.TheVariants as same
 use Rattle.loop_machine.specs.declared.sweep.Value.TheVariants as value
 use Rattle.loop_machine.specs.declared.sweep.Planned.{Planned}
 use Rattle.loop_machine.specs.declared.sweep.Planned.TheVariants as planned
+use Rattle.loop_values.specs.Heap.{Heap}
 use Rattle.loop_machine.specs.Shown.{brace, lines_in, shown}
-use Rattle.loop_machine.specs.Plans.{atom_of_index, atom_of_operand, row_of, placed, LeavesRest}
+use Rattle.loop_machine.specs.Plans.{atom_of_index, atom_of_operand, row_of, placed, assembled}
 use Rattle.loop_machine.proofs.Exits.{drop_some}
 use Rattle.loop_machine.proofs.Ways.{one_way, led_here}
 
@@ -36,14 +39,14 @@ pub begins_again : (functions : List Function) (core : Core) (k : ℕ) (bound : 
     slice_get (lines_in functions core.active.routine) core.active.place ≡ Some code.Close →
     core.active.held ≡ held.Upward k bound body ∷ rest_of core.active.held →
     next ≡ int_wrap w64 (number_at core.active.indices k +ℤ pos 1) →
-    true ≡ int_lt (number_at (with_at (pos 0) core.active.indices k next) k) (atom_in core.active.ints (with_at (pos 0) core.active.indices k next) bound) →
+    int_lt (number_at (with_at (pos 0) core.active.indices k next) k) (atom_in core.active.ints (with_at (pos 0) core.active.indices k next) bound) ≡ true →
     step functions (shown functions core) ≡ Goes true [] (shown functions (record core { active = record core.active { place = body; indices = with_at (pos 0) core.active.indices k next } }))
 begins_again functions core k bound body next line top e below =
     let lines = lines_in functions core.active.routine in
     let s = with_rest (shown functions core) (drop (core.active.place + 1) lines) in
     let outer = map (brace lines) (rest_of core.active.held) in
     closes functions (shown functions core) (drop (core.active.place + 1) lines) k bound (drop body lines) outer (drop_some lines core.active.place code.Close line) (ap (map (brace lines)) top) ∙
-    ap (λ (v : ℤ). up_again (set_index s k v) k bound (drop body lines) outer) (sym e) ∙ ap (λ (goes : Bool). again (set_index s k next) goes (drop body lines) outer) (sym below)
+    ap (λ (v : ℤ). up_again (set_index s k v) k bound (drop body lines) outer) (sym e) ∙ ap (λ (goes : Bool). again (set_index s k next) goes (drop body lines) outer) below
 
 -- ---- a row of the body
 
@@ -68,20 +71,23 @@ moved : (functions : List Function) (s to : State) (rest : List CodeLine) (k : �
 unfolding row_line int_line block_line change_line int_value
 moved functions s to rest k (planned.Cell (cell.Load n m at link)) e = moved_given (int_value s (int.Cell m (atom_of_index k at))) (set_int s n) to rest e
 moved functions s to rest k (planned.Cell (cell.Store m at from link)) e = moved_given (changed s.blocks (block_at s.now.int_blocks m) (store_int (atom_of s (atom_of_index k at)) (atom_of s (atom_of_operand from)))) (with_blocks s) to rest e
+moved functions s to rest k (planned.Frequent (frequent.Load n m link)) e = moved_given (int_value s (int.Cell m (atom.Loop k))) (set_int s n) to rest e
+moved functions s to rest k (planned.Frequent (frequent.Store m i link)) e = moved_given (changed s.blocks (block_at s.now.int_blocks m) (store_int (atom_of s (atom.Loop k)) (atom_of s (atom.Int i)))) (with_blocks s) to rest e
+moved functions s to rest k (planned.Frequent (frequent.Sum n x y)) e = moved_given (int_value s (int.Operation (atom.Int x) operator.Add (atom.Int y))) (set_int s n) to rest e
 moved functions s to rest k (planned.Set n (value.Same (same.Atom a))) e = moved_given (int_value s (int.Atom (atom_of_operand a))) (set_int s n) to rest e
 moved functions s to rest k (planned.Set n (value.Same (same.Wrap a))) e = moved_given (int_value s (int.Wrap (atom_of_operand a))) (set_int s n) to rest e
 moved functions s to rest k (planned.Set n (value.Operation a op b)) e = moved_given (int_value s (int.Operation (atom_of_operand a) op (atom_of_operand b))) (set_int s n) to rest e
 moved functions s to rest k (planned.Set n (value.Sum a b)) e = moved_given (int_value s (int.Operation (atom_of_operand a) operator.Add (atom_of_operand b))) (set_int s n) to rest e
 
 -- and the way goes on with it
-pub row_leads : (functions : List Function) (from : State) (old new : Core) (turns place k : ℕ) (p : Planned) → Leads functions (trail 0 [] from) (trail turns [] (shown functions (placed old place))) →
-    slice_get (lines_in functions old.active.routine) place ≡ Some (code.Row (row_of k p)) → LeavesRest old new →
-    row_line functions (shown functions old) (row_of k p) ≡ Goes false [] (shown functions new) →
-    Leads functions (trail 0 [] from) (trail turns [] (shown functions (placed new (place + 1))))
-row_leads functions from old new turns place k p led line rest e =
-    let behind = drop (place + 1) (lines_in functions old.active.routine) in
-    let same : with_rest (shown functions new) behind ≡ shown functions (placed new (place + 1)) =
-    ap (λ (routine : ℕ). with_rest (shown functions new) (drop (place + 1) (lines_in functions routine))) (sym (ap (λ (core : Core). core.active.routine) rest)) in
-    led_here functions from (shown functions (placed old place)) (shown functions (placed new (place + 1))) turns led
-    (one_way functions (shown functions (placed old place)) (shown functions (placed new (place + 1))) false []
-    (row_step functions old place (row_of k p) line ∙ moved functions (shown functions old) (shown functions new) behind k p e ∙ ap (Goes false []) same))
+pub row_leads : (functions : List Function) (from : State) (core : Core) (ints more : List ℤ) (blocks changed : Heap) (turns place k : ℕ) (p : Planned) →
+    Leads functions (trail 0 [] from) (trail turns [] (shown functions (placed (assembled core ints blocks) place))) →
+    slice_get (lines_in functions core.active.routine) place ≡ Some (code.Row (row_of k p)) →
+    row_line functions (shown functions (assembled core ints blocks)) (row_of k p) ≡ Goes false [] (shown functions (assembled core more changed)) →
+    Leads functions (trail 0 [] from) (trail turns [] (shown functions (placed (assembled core more changed) (place + 1))))
+row_leads functions from core ints more blocks changed turns place k p led line e =
+    let before = assembled core ints blocks in
+    let behind = assembled core more changed in
+    led_here functions from (shown functions (placed before place)) (shown functions (placed behind (place + 1))) turns led
+    (one_way functions (shown functions (placed before place)) (shown functions (placed behind (place + 1))) false []
+    (row_step functions before place (row_of k p) line ∙ moved functions (shown functions before) (shown functions behind) (drop (place + 1) (lines_in functions core.active.routine)) k p e))

@@ -1,5 +1,6 @@
 -- The rows of a loop's body as they are kept for all its turns.
-use Rattle.std.specs.Prelude.{◌≡◌, ℕ, ◌+◌, List, slice_get, Option, Some, ⊤}
+use Rattle.std.specs.Prelude.{◌≡◌, ℕ, ℤ, ◌+◌, List, slice_get, Option, Some, Result, Ok, ⊤}
+use Rattle.a95_base.specs.Integer.{wrapped}
 use Rattle.loop_tree.specs.declared.atom.Atom.{Atom}
 use Rattle.loop_tree.specs.declared.atom.Atom.TheVariants as atom
 use Rattle.loop_tree.specs.declared.atom.Operator.TheVariants as operator
@@ -10,7 +11,8 @@ use Rattle.loop_tree.specs.declared.row.Row.{Row}
 use Rattle.loop_tree.specs.declared.row.Row.TheVariants as row
 use Rattle.loop_tree.specs.declared.tree.CodeLine.{CodeLine}
 use Rattle.loop_tree.specs.declared.tree.CodeLine.TheVariants as code
-use Rattle.loop_tree.specs.Values.{block_at}
+use Rattle.loop_tree.specs.Values.{block_at, atom_in, operation}
+use Rattle.loop_values.specs.Heap.{Heap}
 use Rattle.loop_machine.specs.declared.state.Core.{Core}
 use Rattle.loop_machine.specs.declared.sweep.Same.{Same}
 use Rattle.loop_machine.specs.declared.sweep.Same.TheVariants as same
@@ -22,6 +24,8 @@ use Rattle.loop_machine.specs.declared.sweep.Operand.{Operand}
 use Rattle.loop_machine.specs.declared.sweep.Operand.TheVariants as operand
 use Rattle.loop_machine.specs.declared.sweep.CellRow.{CellRow}
 use Rattle.loop_machine.specs.declared.sweep.CellRow.TheVariants as cell
+use Rattle.loop_machine.specs.declared.sweep.Frequent.{Frequent}
+use Rattle.loop_machine.specs.declared.sweep.Frequent.TheVariants as frequent
 use Rattle.loop_machine.specs.declared.sweep.Planned.{Planned}
 use Rattle.loop_machine.specs.declared.sweep.Planned.TheVariants as planned
 
@@ -46,8 +50,21 @@ int_value_of (value.Sum a b) = int.Operation (atom_of_operand a) operator.Add (a
 int_value_of (value.Operation a op b) = int.Operation (atom_of_operand a) op (atom_of_operand b)
 int_value_of (value.Same v) = same_value v
 
+-- what a variable is set to, where the variables have these values
+abbrev pub found_in : List ℤ → List ℤ → Value → Result ℤ ℕ
+found_in ints indices (value.Sum a b) = operation operator.Add (atom_in ints indices (atom_of_operand a)) (atom_in ints indices (atom_of_operand b))
+found_in ints indices (value.Operation a op b) = operation op (atom_in ints indices (atom_of_operand a)) (atom_in ints indices (atom_of_operand b))
+found_in ints indices (value.Same (same.Atom a)) = Ok (atom_in ints indices (atom_of_operand a))
+found_in ints indices (value.Same (same.Wrap a)) = Ok (wrapped (atom_in ints indices (atom_of_operand a)))
+
+abbrev pub frequent_row : ℕ → Frequent → Row
+frequent_row k (frequent.Load n m link) = row.Int n (int.Cell m (atom.Loop k))
+frequent_row k (frequent.Store m i link) = row.Block (block.StoreInt m (atom.Loop k) (atom.Int i))
+frequent_row k (frequent.Sum n x y) = row.Int n (int.Operation (atom.Int x) operator.Add (atom.Int y))
+
 -- the row, in the body of the loop over variable k
 abbrev pub row_of : ℕ → Planned → Row
+row_of k (planned.Frequent f) = frequent_row k f
 row_of k (planned.Cell c) = cell_row k c
 row_of k (planned.Set n v) = row.Int n (int_value_of v)
 
@@ -56,7 +73,13 @@ abbrev pub CellLinked : List (Option ℕ) → CellRow → Type 0
 CellLinked references (cell.Load n m at link) = block_at references m ≡ Some link
 CellLinked references (cell.Store m at from link) = block_at references m ≡ Some link
 
+abbrev pub FrequentLinked : List (Option ℕ) → Frequent → Type 0
+FrequentLinked references (frequent.Load n m link) = block_at references m ≡ Some link
+FrequentLinked references (frequent.Store m i link) = block_at references m ≡ Some link
+FrequentLinked references (frequent.Sum n x y) = ⊤
+
 abbrev pub IsLinked : List (Option ℕ) → Planned → Type 0
+IsLinked references (planned.Frequent f) = FrequentLinked references f
 IsLinked references (planned.Cell c) = CellLinked references c
 IsLinked references (planned.Set n v) = ⊤
 
@@ -64,9 +87,9 @@ IsLinked references (planned.Set n v) = ⊤
 abbrev pub Plans : List (Option ℕ) → ℕ → List CodeLine → ℕ → List Planned → Type 0
 Plans references k lines from plan = (i : ℕ) (p : Planned) → slice_get plan i ≡ Some p → (slice_get lines (from + i) ≡ Some (code.Row (row_of k p))) × IsLinked references p
 
--- such rows set integers and change blocks, and leave all else
-abbrev pub LeavesRest : Core → Core → Type 0
-LeavesRest old new = new ≡ record old { blocks = new.blocks; active = record old.active { ints = new.active.ints } }
+-- a machine with these integers and blocks in place of its own: all that such rows change
+abbrev pub assembled : Core → List ℤ → Heap → Core
+assembled core ints blocks = record core { blocks = blocks; active = record core.active { ints = ints } }
 
 -- the same with another line next
 abbrev pub placed : Core → ℕ → Core

@@ -1,20 +1,22 @@
 //! Turns of a loop whose body is rows alone. The rows are read once for all turns, with the references of their blocks.
 //! Where one of them doesn't lead on, or no turn follows, the step that any line takes finds out what comes then.
-ghost use Rattle.std.specs.Prelude.{◌≡◌, ◌≤◌, ◌<◌, ◌+◌, ◌^◌, [], ◌∷◌, length, slice_get, Some, IsTrue, false, IfSome};
-ghost use Rattle.loop_tree.specs.State.{Goes};
+ghost use Rattle.std.specs.Prelude.{◌≡◌, ◌≤◌, ◌<◌, ◌+◌, ◌^◌, ◌+ℤ◌, pos, int_lt, [], ◌∷◌, length, slice_get, Some, Ok, IsTrue, true, false, IfSome};
+ghost use Rattle.std.specs.Int.{w64, int_wrap};
+ghost use Rattle.loop_tree.specs.State.{Goes, with_at};
 ghost use Rattle.loop_tree.specs.Values.{number_at, atom_in};
-ghost use Rattle.loop_tree.specs.Machine.{row_line, rest_of};
+ghost use Rattle.loop_tree.specs.Machine.{row_line, step, rest_of};
 ghost use Rattle.loop_tree.specs.Run.{trail, Leads};
 ghost use Rattle.loop_machine.specs.Shown.{shown, lines_in};
-ghost use Rattle.loop_machine.specs.Plans.{atom_of_index, atom_of_operand, row_of, IsLinked, Plans, LeavesRest};
+ghost use Rattle.loop_machine.specs.Plans.{atom_of_index, atom_of_operand, found_in, row_of, IsLinked, Plans, assembled, placed};
 
 use crate::flow::lines_at;
-use crate::quick::{begin_again, load, operate, put, store};
+use crate::quick::operated;
 use crate::routine::Routine;
 use crate::state::{Core, Held};
 use crate::values::atom;
 use loop_tree::{Atom, BlockRow, CodeLine, IntValue, Operator, Row};
-use loop_values::{Link, Numbers, sum, wrap};
+use loop_values::{Blocks, Link, Numbers, sum, wrap};
+use std::mem;
 
 // With fewer turns than this, reading the rows would cost more than it spares.
 const WORTH: i64 = 16;
@@ -22,9 +24,22 @@ const WORTH: i64 = 16;
 /// A row of such a body. No tag has more than three cases, so that none is told by a jump through a table.
 #[derive(Drop)]
 pub enum Planned {
+    Frequent(Frequent),
     Cell(CellRow),
     /// `iN = ..;`
     Set(u32, Value),
+}
+
+/// The rows that loops over arrays have most often, where k is the loop's own variable. Those over a block have the number
+/// of its variable as others have it.
+#[derive(Drop)]
+pub enum Frequent {
+    /// `iN = bN[k];`
+    Load(u32, u32, Link),
+    /// `bN[k] = iN;`
+    Store(u32, u32, Link),
+    /// `iN = iN + iN;`
+    Sum(u32, u32, u32),
 }
 
 /// A row that reads or sets a cell of the block of variable bN. It has N for its contract alone, and at its end the
@@ -95,16 +110,25 @@ fn plan_row(core: &Core, k: u32, row: &Row) -> Option<Planned>
             let Some(link) = core.active.int_blocks.get(*m) else {
                 return None;
             };
-            Some(Planned::Cell(CellRow::Load(*n, *m, index_of(k, *at), link)))
+            Some(match index_of(k, *at) {
+                Index::Own => Planned::Frequent(Frequent::Load(*n, *m, link)),
+                Index::Other(a) => Planned::Cell(CellRow::Load(*n, *m, Index::Other(a), link)),
+            })
         }
         Row::Block(BlockRow::StoreInt(m, at, from)) => {
             let Some(link) = core.active.int_blocks.get(*m) else {
                 return None;
             };
-            Some(Planned::Cell(CellRow::Store(*m, index_of(k, *at), operand_of(*from), link)))
+            Some(match (index_of(k, *at), operand_of(*from)) {
+                (Index::Own, Operand::Int(i)) => Planned::Frequent(Frequent::Store(*m, i, link)),
+                (at, from) => Planned::Cell(CellRow::Store(*m, at, from, link)),
+            })
         }
         Row::Int(n, IntValue::Operation(a, Operator::Add, b)) => {
-            Some(Planned::Set(*n, Value::Sum(operand_of(*a), operand_of(*b))))
+            Some(match (operand_of(*a), operand_of(*b)) {
+                (Operand::Int(x), Operand::Int(y)) => Planned::Frequent(Frequent::Sum(*n, x, y)),
+                (a, b) => Planned::Set(*n, Value::Sum(a, b)),
+            })
         }
         Row::Int(n, IntValue::Operation(a, op, b)) => {
             Some(Planned::Set(*n, Value::Operation(operand_of(*a), *op, operand_of(*b))))
@@ -142,75 +166,252 @@ fn plan(core: &Core, k: u32, lines: &[CodeLine], from: usize) -> Option<Vec<Plan
     None
 }
 
-/// The value of an index where the loop's own variable has this one.
+/// The value of an atom, if it is at hand.
 #[inline(always)]
-fn index_value(ints: &Numbers, indices: &Numbers, k: u32, own: i64, at: Index) -> i64
-    requires { own ≡ number_at indices.now k }
-    ensures { result ≡ atom_in ints.now indices.now (atom_of_index k at) }
-{
-    match at {
-        Index::Own => own,
-        Index::Other(a) => atom(ints, indices, a),
-    }
-}
-
-#[inline(always)]
-fn operand_value(ints: &Numbers, indices: &Numbers, a: Operand) -> i64
-    ensures { result ≡ atom_in ints.now indices.now (atom_of_operand a) }
+fn read(ints: &Numbers, indices: &Numbers, a: &Atom) -> Option<i64>
+    ensures { IfSome result (λ value. value ≡ atom_in ints.now indices.now a.now) }
 {
     match a {
-        Operand::Int(n) => ints.get(n),
-        Operand::Other(a) => atom(ints, indices, a),
+        Atom::Int(n) => ints.at_hand(*n),
+        Atom::Loop(j) => indices.at_hand(*j),
+        Atom::Number(z) => Some(*z),
     }
 }
 
-/// A row. It does the same whatever lines the state's rest has.
+/// The value of an index where the loop's own variable has this one.
 #[inline(always)]
-#[tactic(auto, unfolding(loop_tree::specs::Machine::row_line, loop_tree::specs::Machine::int_line, loop_tree::specs::Machine::block_line, loop_tree::specs::Values::int_value, loop_tree::specs::Values::operation))]
-fn obey(routines: &[Routine], core: &mut Core, row: &Planned, k: u32, own: i64) -> bool
-    requires linked { IsLinked core.old.active.int_blocks row.now }
-    requires turn { own ≡ number_at core.old.active.indices k }
-    ensures led { IsTrue result → row_line routines.now (shown routines.now core.old) (row_of k row.now) ≡ Goes false [] (shown routines.now core.new) }
-    ensures stays { result ≡ false → core.new ≡ core.old }
-    ensures rest { LeavesRest core.old core.new }
+fn index_value(ints: &Numbers, indices: &Numbers, k: u32, own: i64, at: &Index) -> Option<i64>
+    requires { own ≡ number_at indices.now k }
+    ensures { IfSome result (λ value. value ≡ atom_in ints.now indices.now (atom_of_index k at.now)) }
 {
-    let ints = &core.active.ints;
-    let indices = &core.active.indices;
-    match row {
-        Planned::Cell(CellRow::Load(n, _, at, link)) => {
-            let at = index_value(ints, indices, k, own, *at);
-            load(routines, core, *n, Some(link.again()), at)
+    match at {
+        Index::Own => Some(own),
+        Index::Other(a) => read(ints, indices, a),
+    }
+}
+
+#[inline(always)]
+fn operand_value(ints: &Numbers, indices: &Numbers, a: &Operand) -> Option<i64>
+    ensures { IfSome result (λ value. value ≡ atom_in ints.now indices.now (atom_of_operand a.now)) }
+{
+    match a {
+        Operand::Int(n) => ints.at_hand(*n),
+        Operand::Other(a) => read(ints, indices, a),
+    }
+}
+
+/// What a variable is set to.
+#[inline(always)]
+#[tactic(auto, unfolding(loop_tree::specs::Values::operation))]
+fn right_side(ints: &Numbers, indices: &Numbers, right: &Value) -> Option<i64>
+    ensures { IfSome result (λ found. found_in ints.now indices.now right.now ≡ Ok found) }
+{
+    match right {
+        Value::Sum(a, b) => {
+            let x = operand_value(ints, indices, a)?;
+            let y = operand_value(ints, indices, b)?;
+            Some(sum(x, y))
         }
-        Planned::Cell(CellRow::Store(_, at, from, link)) => {
-            let at = index_value(ints, indices, k, own, *at);
-            let value = operand_value(ints, indices, *from);
-            store(routines, core, Some(link.again()), at, value)
+        Value::Operation(a, op, b) => {
+            let x = operand_value(ints, indices, a)?;
+            let y = operand_value(ints, indices, b)?;
+            operated(x, *op, y)
         }
-        Planned::Set(n, Value::Sum(a, b)) => {
-            let found = sum(
-                operand_value(ints, indices, *a),
-                operand_value(ints, indices, *b),
-            );
-            put(routines, core, *n, found)
-        }
-        Planned::Set(n, Value::Operation(a, op, b)) => {
-            let x = operand_value(ints, indices, *a);
-            let y = operand_value(ints, indices, *b);
-            operate(routines, core, *n, x, *op, y)
-        }
-        Planned::Set(n, Value::Same(Same::Atom(a))) => {
-            let found = operand_value(ints, indices, *a);
-            put(routines, core, *n, found)
-        }
-        Planned::Set(n, Value::Same(Same::Wrap(a))) => {
-            let found = wrap(operand_value(ints, indices, *a));
-            put(routines, core, *n, found)
+        Value::Same(Same::Atom(a)) => operand_value(ints, indices, a),
+        Value::Same(Same::Wrap(a)) => {
+            let x = operand_value(ints, indices, a)?;
+            Some(wrap(x))
         }
     }
+}
+
+/// A row, in a state with these integers and blocks. It does the same whatever lines the state's rest has.
+#[inline(always)]
+#[tactic(auto, unfolding(loop_tree::specs::Machine::row_line, loop_tree::specs::Machine::int_line, loop_tree::specs::Machine::block_line, loop_tree::specs::Machine::change_line, loop_tree::specs::Values::int_value, loop_tree::specs::Values::operation))]
+fn obey(
+    routines: &[Routine],
+    core: &Core,
+    ints: &mut Numbers,
+    blocks: &mut Blocks,
+    row: &Planned,
+    k: u32,
+    own: i64,
+) -> bool
+    requires linked { IsLinked core.now.active.int_blocks row.now }
+    requires turn { own ≡ number_at core.now.active.indices k }
+    ensures led { IsTrue result → row_line routines.now (shown routines.now (assembled core.now ints.old blocks.old)) (row_of k row.now) ≡ Goes false [] (shown routines.now (assembled core.now ints.new blocks.new)) }
+    ensures ints { result ≡ false → ints.new ≡ ints.old }
+    ensures blocks { result ≡ false → blocks.new ≡ blocks.old }
+{
+    let _ = routines;
+    let indices = &core.active.indices;
+    match row {
+        Planned::Frequent(Frequent::Load(n, _, link)) => {
+            let Some(found) = blocks.cell_at_hand(link, own) else {
+                return false;
+            };
+            ints.set_at_hand(*n, found)
+        }
+        Planned::Frequent(Frequent::Store(_, i, link)) => {
+            let Some(from) = ints.at_hand(*i) else {
+                return false;
+            };
+            blocks.store_at_hand(link, own, from)
+        }
+        Planned::Frequent(Frequent::Sum(n, x, y)) => {
+            let Some(x) = ints.at_hand(*x) else {
+                return false;
+            };
+            let Some(y) = ints.at_hand(*y) else {
+                return false;
+            };
+            ints.set_at_hand(*n, sum(x, y))
+        }
+        Planned::Cell(CellRow::Load(n, _, at, link)) => {
+            let Some(at) = index_value(ints, indices, k, own, at) else {
+                return false;
+            };
+            let Some(found) = blocks.cell_at_hand(link, at) else {
+                return false;
+            };
+            ints.set_at_hand(*n, found)
+        }
+        Planned::Cell(CellRow::Store(_, at, from, link)) => {
+            let Some(at) = index_value(ints, indices, k, own, at) else {
+                return false;
+            };
+            let Some(from) = operand_value(ints, indices, from) else {
+                return false;
+            };
+            blocks.store_at_hand(link, at, from)
+        }
+        Planned::Set(n, right) => {
+            let Some(found) = right_side(ints, indices, right) else {
+                return false;
+            };
+            ints.set_at_hand(*n, found)
+        }
+    }
+}
+
+/// A loop variable that is set to a value stands below the bound then, which is at hand.
+#[inline(always)]
+#[tactic(auto, using(crate::proofs::Variables::set_same, crate::proofs::Variables::set_other))]
+fn is_below(ints: &Numbers, indices: &Numbers, k: u32, bound: Atom, value: i64) -> bool
+    ensures { IsTrue result → int_lt (number_at (with_at (pos 0) indices.now k value) k) (atom_in ints.now (with_at (pos 0) indices.now k value) bound) ≡ true }
+{
+    let limit = match bound {
+        Atom::Int(n) => ints.at_hand(n),
+        Atom::Loop(j) => if j == k {
+            Some(value)
+        } else {
+            indices.at_hand(j)
+        },
+        Atom::Number(z) => Some(z),
+    };
+    match limit {
+        Some(limit) => value < limit,
+        None => false,
+    }
+}
+
+/// The brace at a place that closes the body of such a loop, in a state with these integers and blocks, where the loop's
+/// variable is to have this value next. The body begins again if the value is below the bound.
+#[inline(always)]
+fn begin_again(
+    routines: &[Routine],
+    lines: &[CodeLine],
+    core: &mut Core,
+    ints: &Numbers,
+    blocks: &Blocks,
+    k: u32,
+    bound: Atom,
+    close: usize,
+    body: usize,
+    next: i64,
+) -> bool
+    requires here { lines.now ≡ lines_in routines.now core.old.active.routine }
+    requires closes { slice_get lines.now close ≡ Some CodeLine.Close }
+    requires innermost { core.old.active.held ≡ Held.Upward k bound body ∷ rest_of core.old.active.held }
+    requires next { next ≡ int_wrap w64 (number_at core.old.active.indices k +ℤ pos 1) }
+    ensures led { IsTrue result → step routines.now (shown routines.now (placed (assembled core.old ints.now blocks.now) close)) ≡ Goes true [] (shown routines.now (placed (assembled core.new ints.now blocks.now) body)) }
+    ensures begun { IsTrue result → core.new ≡ record core.old { active = record core.old.active { indices = with_at (pos 0) core.old.active.indices k next } } }
+    ensures stays { result ≡ false → core.new ≡ core.old }
+{
+    let _ = routines;
+    let _ = lines;
+    let _ = blocks;
+    let _ = close;
+    let _ = body;
+    if !is_below(ints, &core.active.indices, k, bound, next) {
+        return false;
+    }
+    core.active.indices.set_at_hand(k, next)
 }
 
 /// At most so many turns more of the loop whose body begins here, and the rows behind the last of them, as far as they
 /// lead on. Answers how many turns it were. Rows and turns are one loop, so that all it needs is at hand in both.
+#[inline(always)]
+fn turns_apart(
+    routines: &[Routine],
+    lines: &[CodeLine],
+    plan: &[Planned],
+    core: &mut Core,
+    ints: &mut Numbers,
+    blocks: &mut Blocks,
+    k: u32,
+    bound: Atom,
+    may: u64,
+) -> u64
+    requires here { lines.now ≡ lines_in routines.now core.old.active.routine }
+    requires planned { Plans core.old.active.int_blocks k lines.now core.old.active.place plan.now }
+    requires fits { core.old.active.place + length plan.now < 2 ^ 64 }
+    requires closes { slice_get lines.now (core.old.active.place + length plan.now) ≡ Some CodeLine.Close }
+    requires innermost { core.old.active.held ≡ Held.Upward k bound core.old.active.place ∷ rest_of core.old.active.held }
+    ensures within { result ≤ may }
+    ensures led { Leads routines.now (trail 0 [] (shown routines.now (assembled core.old ints.old blocks.old))) (trail result [] (shown routines.now (assembled core.new ints.new blocks.new))) }
+{
+    let body = core.active.place;
+    let mut own = core.active.indices.get(k);
+    let mut used = 0;
+    let mut rest = plan;
+    loop {
+        if let Some((row, more)) = rest.split_first() {
+            if !obey(routines, core, ints, blocks, row, k, own) {
+                core.active.place = body + (plan.len() - rest.len());
+                return used;
+            }
+            rest = more;
+            continue;
+        }
+        if used == may {
+            core.active.place = body + plan.len();
+            return used;
+        }
+        let next = sum(own, 1);
+        if !begin_again(
+            routines,
+            lines,
+            core,
+            ints,
+            blocks,
+            k,
+            bound,
+            body + plan.len(),
+            body,
+            next,
+        ) {
+            core.active.place = body + plan.len();
+            return used;
+        }
+        own = next;
+        used += 1;
+        rest = plan;
+    }
+}
+
+/// The same. Integers and blocks are taken out of the machine meanwhile, and stand in the function's own variables, so
+/// that where their lists stand in memory isn't read anew for each access.
 #[inline(never)]
 fn turns(
     routines: &[Routine],
@@ -229,35 +430,27 @@ fn turns(
     ensures within { result ≤ may }
     ensures led { Leads routines.now (trail 0 [] (shown routines.now core.old)) (trail result [] (shown routines.now core.new)) }
 {
-    let body = core.active.place;
-    let mut own = core.active.indices.get(k);
-    let mut used = 0;
-    let mut at = 0;
-    loop {
-        if let Some(row) = plan.get(at) {
-            if !obey(routines, core, row, k, own) {
-                core.active.place = body + at;
-                return used;
-            }
-            at += 1;
-            continue;
-        }
-        core.active.place = body + at;
-        if used == may {
-            return used;
-        }
-        let next = sum(own, 1);
-        if !begin_again(routines, lines, core, k, bound, body, next) {
-            return used;
-        }
-        own = next;
-        used += 1;
-        at = 0;
-    }
+    let mut ints = mem::replace(&mut core.active.ints, Numbers::new(core.alloc));
+    let mut blocks = mem::replace(&mut core.blocks, Blocks::new(core.alloc));
+    let used = turns_apart(
+        routines,
+        lines,
+        plan,
+        core,
+        &mut ints,
+        &mut blocks,
+        k,
+        bound,
+        may,
+    );
+    core.active.ints = ints;
+    core.blocks = blocks;
+    used
 }
 
-/// Turns of a loop that has just begun and goes upward, at most so many, where its body is rows alone and it has many
-/// turns. Answers how many it were; there may be more.
+/// Turns of a loop that has begun not long ago and goes upward, at most so many, where its body is rows alone and it has
+/// many turns. Answers how many it were; there may be more. In the first turn a row may set a variable that wasn't set
+/// before, and isn't at hand then, so the second turn is tried too.
 #[inline(never)]
 #[tactic(auto, using(crate::proofs::Ways::no_way))]
 pub fn sweep(routines: &[Routine], core: &mut Core, may: u64) -> u64
@@ -271,7 +464,7 @@ pub fn sweep(routines: &[Routine], core: &mut Core, may: u64) -> u64
     if core.active.place != body {
         return 0;
     }
-    if core.active.indices.get(k) != 0 {
+    if core.active.indices.get(k) > 1 {
         return 0;
     }
     if atom(&core.active.ints, &core.active.indices, bound) < WORTH {
