@@ -617,3 +617,25 @@ fn characters_are_made(rt: HostRuntime) -> Result<(), Fail> {
     assert!(rt; last.as_slice() == [255].as_slice());
     Ok(())
 }
+
+#[test]
+fn what_is_at_hand_is_read_and_set_at_once(rt: HostRuntime) -> Result<(), Fail> {
+    let mut numbers = Numbers::new(rt.alloc());
+    assert!(rt; !numbers.set_at_hand(2, 7));
+    numbers.set(2, 6)?;
+    assert!(rt; numbers.set_at_hand(2, 7));
+    assert_eq!(rt; numbers.at_hand(2), Some(7));
+    assert_eq!(rt; numbers.at_hand(1), Some(0));
+    assert_eq!(rt; numbers.at_hand(3), None);
+    let mut blocks = Blocks::new(rt.alloc());
+    let Ok(link) = blocks.new_ints(2)? else {
+        return Err(Fail::new("no block was made"));
+    };
+    assert!(rt; blocks.store_at_hand(&link, 1, 5));
+    assert_eq!(rt; blocks.cell_at_hand(&link, 1), Some(5));
+    assert_eq!(rt; blocks.cell_at_hand(&link, 2), None);
+    assert!(rt; !blocks.store_at_hand(&link, -1, 5));
+    assert!(rt; blocks.free(Some(link.again())).is_ok());
+    assert_eq!(rt; blocks.cell_at_hand(&link, 1), None);
+    Ok(())
+}
