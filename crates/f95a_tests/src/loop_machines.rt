@@ -456,9 +456,9 @@ fn each_stuck_state_has_its_number(rt: HostRuntime) -> Result<(), Fail> {
     Ok(())
 }
 
-/// Loops of many turns over rows alone, among them some that stop within a turn, and such as have other lines. What they come to was
-/// found by another reader of LoopC.
-const SWEEPS: [(&str, End, &str); 15] = [
+/// Loops of many turns over integers and cells, among them some that stop within a turn, and some with other lines.
+/// What they come to was found by another reader of LoopC.
+const SWEEPS: [(&str, End, &str); 16] = [
     (
         "b0 = f_new(40);\nfor (k1 = 0; k1 < 40; k1 = k1 + 1) {\ni0 = b0[k1];\ni0 = i0 + k1;\nb0[k1] = i0;\n}\ni1 = b0[39];\nf_put_int(i0);\nf_put_int(i1);\nf_put_int(k1);\nf_record();\n",
         End::Ended,
@@ -533,6 +533,11 @@ const SWEEPS: [(&str, End, &str); 15] = [
         "i0 = 9223372036854775807;\nfor (k1 = 0; k1 < 17; k1 = k1 + 1) {\ni0 = i0 + i0;\ni0 = i0 - k1;\n}\nf_put_int(i0);\nf_put_int(k1);\nf_record();\n",
         End::Ended,
         " -262126 17\n",
+    ),
+    (
+        "for (k1 = 0; k1 < 20; k1 = k1 + 1) {\nf_at(9);\ni1 = 15 - k1;\ni0 = i0 + i1;\n}\nf_at(3);\nfor (k1 = 0; k1 < 20; k1 = k1 + 1) {\nf_at(4);\ni0 = i0 + 1;\nf_at(5);\n}\nf_put_int(i0);\nf_record();\n",
+        End::Ended,
+        " 130\n",
     ),
 ];
 

@@ -12,7 +12,7 @@ use Rattle.loop_tree.specs.declared.tree.CodeLine.TheVariants as code
 use Rattle.loop_tree.specs.declared.tree.Function.{Function}
 use Rattle.loop_tree.specs.State.{Brace, Upward, State, Next, Goes, Ends, with_at, with_rest, with_blocks, set_int, set_index}
 use Rattle.loop_tree.specs.Values.{number_at, block_at, atom_in, atom_of, int_value}
-use Rattle.loop_tree.specs.Machine.{rest_of, again, up_again, close_line, given, changed, store_int, change_line, int_line, block_line, row_line, do_line, step_at, step}
+use Rattle.loop_tree.specs.Machine.{rest_of, again, up_again, close_line, given, changed, store_int, change_line, int_line, block_line, at_line, control_line, row_line, do_line, step_at, step}
 use Rattle.loop_tree.specs.Run.{trail, Leads}
 use Rattle.loop_machine.specs.declared.state.Held.TheVariants as held
 use Rattle.loop_machine.specs.declared.state.Core.{Core}
@@ -20,6 +20,7 @@ use Rattle.loop_machine.specs.declared.sweep.CellRow.TheVariants as cell
 use Rattle.loop_machine.specs.declared.sweep.Frequent.TheVariants as frequent
 use Rattle.loop_machine.specs.declared.sweep.Same.TheVariants as same
 use Rattle.loop_machine.specs.declared.sweep.Value.TheVariants as value
+use Rattle.loop_machine.specs.declared.sweep.Plain.TheVariants as plain
 use Rattle.loop_machine.specs.declared.sweep.Planned.{Planned}
 use Rattle.loop_machine.specs.declared.sweep.Planned.TheVariants as planned
 use Rattle.loop_values.specs.Heap.{Heap}
@@ -68,16 +69,17 @@ moved_given (Err why) next to rest e = absurd cc
 -- such a row does the same whatever the rest is
 moved : (functions : List Function) (s to : State) (rest : List CodeLine) (k : ℕ) (p : Planned) → row_line functions s (row_of k p) ≡ Goes false [] to →
     row_line functions (with_rest s rest) (row_of k p) ≡ Goes false [] (with_rest to rest)
-unfolding row_line int_line block_line change_line int_value
+unfolding row_line int_line block_line change_line control_line at_line int_value
 moved functions s to rest k (planned.Cell (cell.Load n m at link)) e = moved_given (int_value s (int.Cell m (atom_of_index k at))) (set_int s n) to rest e
 moved functions s to rest k (planned.Cell (cell.Store m at from link)) e = moved_given (changed s.blocks (block_at s.now.int_blocks m) (store_int (atom_of s (atom_of_index k at)) (atom_of s (atom_of_operand from)))) (with_blocks s) to rest e
 moved functions s to rest k (planned.Frequent (frequent.Load n m link)) e = moved_given (int_value s (int.Cell m (atom.Loop k))) (set_int s n) to rest e
 moved functions s to rest k (planned.Frequent (frequent.Store m i link)) e = moved_given (changed s.blocks (block_at s.now.int_blocks m) (store_int (atom_of s (atom.Loop k)) (atom_of s (atom.Int i)))) (with_blocks s) to rest e
 moved functions s to rest k (planned.Frequent (frequent.Sum n x y)) e = moved_given (int_value s (int.Operation (atom.Int x) operator.Add (atom.Int y))) (set_int s n) to rest e
-moved functions s to rest k (planned.Set n (value.Same (same.Atom a))) e = moved_given (int_value s (int.Atom (atom_of_operand a))) (set_int s n) to rest e
-moved functions s to rest k (planned.Set n (value.Same (same.Wrap a))) e = moved_given (int_value s (int.Wrap (atom_of_operand a))) (set_int s n) to rest e
-moved functions s to rest k (planned.Set n (value.Operation a op b)) e = moved_given (int_value s (int.Operation (atom_of_operand a) op (atom_of_operand b))) (set_int s n) to rest e
-moved functions s to rest k (planned.Set n (value.Sum a b)) e = moved_given (int_value s (int.Operation (atom_of_operand a) operator.Add (atom_of_operand b))) (set_int s n) to rest e
+moved functions s to rest k (planned.Plain (plain.At n)) e = ap (λ (t : State). Goes false [] (with_rest t rest)) (ap (state_of to) e)
+moved functions s to rest k (planned.Plain (plain.Set n (value.Same (same.Atom a)))) e = moved_given (int_value s (int.Atom (atom_of_operand a))) (set_int s n) to rest e
+moved functions s to rest k (planned.Plain (plain.Set n (value.Same (same.Wrap a)))) e = moved_given (int_value s (int.Wrap (atom_of_operand a))) (set_int s n) to rest e
+moved functions s to rest k (planned.Plain (plain.Set n (value.Operation a op b))) e = moved_given (int_value s (int.Operation (atom_of_operand a) op (atom_of_operand b))) (set_int s n) to rest e
+moved functions s to rest k (planned.Plain (plain.Set n (value.Sum a b))) e = moved_given (int_value s (int.Operation (atom_of_operand a) operator.Add (atom_of_operand b))) (set_int s n) to rest e
 
 -- and the way goes on with it
 pub row_leads : (functions : List Function) (from : State) (core : Core) (ints more : List ℤ) (blocks changed : Heap) (turns place k : ℕ) (p : Planned) →

@@ -7,6 +7,7 @@ use Rattle.loop_tree.specs.declared.atom.Operator.TheVariants as operator
 use Rattle.loop_tree.specs.declared.row.IntValue.{IntValue}
 use Rattle.loop_tree.specs.declared.row.IntValue.TheVariants as int
 use Rattle.loop_tree.specs.declared.row.BlockRow.TheVariants as block
+use Rattle.loop_tree.specs.declared.row.ControlRow.TheVariants as control
 use Rattle.loop_tree.specs.declared.row.Row.{Row}
 use Rattle.loop_tree.specs.declared.row.Row.TheVariants as row
 use Rattle.loop_tree.specs.declared.tree.CodeLine.{CodeLine}
@@ -26,6 +27,8 @@ use Rattle.loop_machine.specs.declared.sweep.CellRow.{CellRow}
 use Rattle.loop_machine.specs.declared.sweep.CellRow.TheVariants as cell
 use Rattle.loop_machine.specs.declared.sweep.Frequent.{Frequent}
 use Rattle.loop_machine.specs.declared.sweep.Frequent.TheVariants as frequent
+use Rattle.loop_machine.specs.declared.sweep.Plain.{Plain}
+use Rattle.loop_machine.specs.declared.sweep.Plain.TheVariants as plain
 use Rattle.loop_machine.specs.declared.sweep.Planned.{Planned}
 use Rattle.loop_machine.specs.declared.sweep.Planned.TheVariants as planned
 
@@ -62,11 +65,15 @@ frequent_row k (frequent.Load n m link) = row.Int n (int.Cell m (atom.Loop k))
 frequent_row k (frequent.Store m i link) = row.Block (block.StoreInt m (atom.Loop k) (atom.Int i))
 frequent_row k (frequent.Sum n x y) = row.Int n (int.Operation (atom.Int x) operator.Add (atom.Int y))
 
+abbrev pub plain_row : Plain → Row
+plain_row (plain.Set n v) = row.Int n (int_value_of v)
+plain_row (plain.At n) = row.Control (control.At n)
+
 -- the row, in the body of the loop over variable k
 abbrev pub row_of : ℕ → Planned → Row
 row_of k (planned.Frequent f) = frequent_row k f
 row_of k (planned.Cell c) = cell_row k c
-row_of k (planned.Set n v) = row.Int n (int_value_of v)
+row_of k (planned.Plain r) = plain_row r
 
 -- the reference that is kept is the one that the variable holds
 abbrev pub CellLinked : List (Option ℕ) → CellRow → Type 0
@@ -78,14 +85,20 @@ FrequentLinked references (frequent.Load n m link) = block_at references m ≡ S
 FrequentLinked references (frequent.Store m i link) = block_at references m ≡ Some link
 FrequentLinked references (frequent.Sum n x y) = ⊤
 
-abbrev pub IsLinked : List (Option ℕ) → Planned → Type 0
-IsLinked references (planned.Frequent f) = FrequentLinked references f
-IsLinked references (planned.Cell c) = CellLinked references c
-IsLinked references (planned.Set n v) = ⊤
+abbrev pub AtLine : ℕ → Plain → Type 0
+AtLine line (plain.Set n v) = ⊤
+AtLine line (plain.At n) = line ≡ n
+
+-- and the line that is to be set is set
+abbrev pub IsSettled : List (Option ℕ) → ℕ → Planned → Type 0
+IsSettled references line (planned.Frequent f) = FrequentLinked references f
+IsSettled references line (planned.Cell c) = CellLinked references c
+IsSettled references line (planned.Plain r) = AtLine line r
 
 -- each stands for a line, from a place on
-abbrev pub Plans : List (Option ℕ) → ℕ → List CodeLine → ℕ → List Planned → Type 0
-Plans references k lines from plan = (i : ℕ) (p : Planned) → slice_get plan i ≡ Some p → (slice_get lines (from + i) ≡ Some (code.Row (row_of k p))) × IsLinked references p
+abbrev pub Plans : List (Option ℕ) → ℕ → ℕ → List CodeLine → ℕ → List Planned → Type 0
+Plans references line k lines from plan =
+    (i : ℕ) (p : Planned) → slice_get plan i ≡ Some p → (slice_get lines (from + i) ≡ Some (code.Row (row_of k p))) × IsSettled references line p
 
 -- a machine with these integers and blocks in place of its own: all that such rows change
 abbrev pub assembled : Core → List ℤ → Heap → Core

@@ -1,4 +1,4 @@
-//! Turns of a loop whose body is rows alone. The rows are read once for all turns, with the references of their blocks.
+//! Turns of a loop whose body has rows of integers and cells alone. The rows are read once for all turns, with the references of their blocks.
 //! Where one of them doesn't lead on, or no turn follows, the step that any line takes finds out what comes then.
 ghost use Rattle.std.specs.Prelude.{◌≡◌, ◌≤◌, ◌<◌, ◌+◌, ◌^◌, ◌+ℤ◌, pos, int_lt, [], ◌∷◌, length, slice_get, Some, Ok, IsTrue, true, false, IfSome};
 ghost use Rattle.std.specs.Int.{w64, int_wrap};
@@ -7,14 +7,14 @@ ghost use Rattle.loop_tree.specs.Values.{number_at, atom_in};
 ghost use Rattle.loop_tree.specs.Machine.{row_line, step, rest_of};
 ghost use Rattle.loop_tree.specs.Run.{trail, Leads};
 ghost use Rattle.loop_machine.specs.Shown.{shown, lines_in};
-ghost use Rattle.loop_machine.specs.Plans.{atom_of_index, atom_of_operand, found_in, row_of, IsLinked, Plans, assembled, placed};
+ghost use Rattle.loop_machine.specs.Plans.{atom_of_index, atom_of_operand, found_in, row_of, IsSettled, Plans, assembled, placed};
 
 use crate::flow::lines_at;
 use crate::quick::operated;
 use crate::routine::Routine;
 use crate::state::{Core, Held};
 use crate::values::atom;
-use loop_tree::{Atom, BlockRow, CodeLine, IntValue, Operator, Row};
+use loop_tree::{Atom, BlockRow, CodeLine, ControlRow, IntValue, Operator, Row};
 use loop_values::{Blocks, Link, Numbers, sum, wrap};
 use std::mem;
 
@@ -26,8 +26,7 @@ const WORTH: i64 = 16;
 pub enum Planned {
     Frequent(Frequent),
     Cell(CellRow),
-    /// `iN = ..;`
-    Set(u32, Value),
+    Plain(Plain),
 }
 
 /// The rows that loops over arrays have most often, where k is the loop's own variable. Those over a block have the number
@@ -50,6 +49,15 @@ pub enum CellRow {
     Load(u32, u32, Index, Link),
     /// `bN[A] = A;`
     Store(u32, Index, Operand, Link),
+}
+
+/// A row that has no cell.
+#[derive(Clone, Copy)]
+pub enum Plain {
+    /// `iN = ..;`
+    Set(u32, Value),
+    /// `f_at(N);` where that line is set already, so that nothing is to be done.
+    At(u32),
 }
 
 /// An index: the loop's own variable, or another atom.
@@ -101,9 +109,9 @@ fn operand_of(a: Atom) -> Operand
     }
 }
 
-/// A row as it is kept, if it is such a one and its block's variable holds a reference.
+/// A row as it is kept, if it is such a one, and its block's variable holds a reference or its line is set.
 fn plan_row(core: &Core, k: u32, row: &Row) -> Option<Planned>
-    ensures { IfSome result (λ p. (row.now ≡ row_of k p) × IsLinked core.now.active.int_blocks p) }
+    ensures { IfSome result (λ p. (row.now ≡ row_of k p) × IsSettled core.now.active.int_blocks core.now.active.line p) }
 {
     match row {
         Row::Int(n, IntValue::Cell(m, at)) => {
@@ -127,17 +135,26 @@ fn plan_row(core: &Core, k: u32, row: &Row) -> Option<Planned>
         Row::Int(n, IntValue::Operation(a, Operator::Add, b)) => {
             Some(match (operand_of(*a), operand_of(*b)) {
                 (Operand::Int(x), Operand::Int(y)) => Planned::Frequent(Frequent::Sum(*n, x, y)),
-                (a, b) => Planned::Set(*n, Value::Sum(a, b)),
+                (a, b) => Planned::Plain(Plain::Set(*n, Value::Sum(a, b))),
             })
         }
         Row::Int(n, IntValue::Operation(a, op, b)) => {
-            Some(Planned::Set(*n, Value::Operation(operand_of(*a), *op, operand_of(*b))))
+            Some(Planned::Plain(Plain::Set(
+                *n,
+                Value::Operation(operand_of(*a), *op, operand_of(*b)),
+            )))
         }
         Row::Int(n, IntValue::Atom(a)) => {
-            Some(Planned::Set(*n, Value::Same(Same::Atom(operand_of(*a)))))
+            Some(Planned::Plain(Plain::Set(*n, Value::Same(Same::Atom(operand_of(*a))))))
         }
         Row::Int(n, IntValue::Wrap(a)) => {
-            Some(Planned::Set(*n, Value::Same(Same::Wrap(operand_of(*a)))))
+            Some(Planned::Plain(Plain::Set(*n, Value::Same(Same::Wrap(operand_of(*a))))))
+        }
+        Row::Control(ControlRow::At(n)) => {
+            if *n != core.active.line {
+                return None;
+            }
+            Some(Planned::Plain(Plain::At(*n)))
         }
         _ => None,
     }
@@ -145,7 +162,7 @@ fn plan_row(core: &Core, k: u32, row: &Row) -> Option<Planned>
 
 /// The rows of the body that begins at a place. None where it has other lines, or no memory is left for them.
 fn plan(core: &Core, k: u32, lines: &[CodeLine], from: usize) -> Option<Vec<Planned>>
-    ensures rows { IfSome result (λ rows. Plans core.now.active.int_blocks k lines.now from rows.items) }
+    ensures rows { IfSome result (λ rows. Plans core.now.active.int_blocks core.now.active.line k lines.now from rows.items) }
     ensures closes { IfSome result (λ rows. slice_get lines.now (from + length rows.items) ≡ Some CodeLine.Close) }
     ensures fits { IfSome result (λ rows. from + length rows.items < 2 ^ 64) }
 {
@@ -227,7 +244,7 @@ fn right_side(ints: &Numbers, indices: &Numbers, right: &Value) -> Option<i64>
 
 /// A row, in a state with these integers and blocks. It does the same whatever lines the state's rest has.
 #[inline(always)]
-#[tactic(auto, unfolding(loop_tree::specs::Machine::row_line, loop_tree::specs::Machine::int_line, loop_tree::specs::Machine::block_line, loop_tree::specs::Machine::change_line, loop_tree::specs::Values::int_value, loop_tree::specs::Values::operation))]
+#[tactic(auto, unfolding(loop_tree::specs::Machine::row_line, loop_tree::specs::Machine::int_line, loop_tree::specs::Machine::block_line, loop_tree::specs::Machine::change_line, loop_tree::specs::Machine::control_line, loop_tree::specs::Machine::at_line, loop_tree::specs::Values::int_value, loop_tree::specs::Values::operation))]
 fn obey(
     routines: &[Routine],
     core: &Core,
@@ -237,7 +254,7 @@ fn obey(
     k: u32,
     own: i64,
 ) -> bool
-    requires linked { IsLinked core.now.active.int_blocks row.now }
+    requires settled { IsSettled core.now.active.int_blocks core.now.active.line row.now }
     requires turn { own ≡ number_at core.now.active.indices k }
     ensures led { IsTrue result → row_line routines.now (shown routines.now (assembled core.now ints.old blocks.old)) (row_of k row.now) ≡ Goes false [] (shown routines.now (assembled core.now ints.new blocks.new)) }
     ensures ints { result ≡ false → ints.new ≡ ints.old }
@@ -285,7 +302,8 @@ fn obey(
             };
             blocks.store_at_hand(link, at, from)
         }
-        Planned::Set(n, right) => {
+        Planned::Plain(Plain::At(_)) => true,
+        Planned::Plain(Plain::Set(n, right)) => {
             let Some(found) = right_side(ints, indices, right) else {
                 return false;
             };
@@ -350,7 +368,7 @@ fn begin_again(
 }
 
 /// At most so many turns more of the loop whose body begins here, and the rows behind the last of them, as far as they
-/// lead on. Answers how many turns it were. Rows and turns are one loop, so that all it needs is at hand in both.
+/// lead on. Answers how many turns there were. Rows and turns are one loop, so that all it needs is at hand in both.
 #[inline(always)]
 fn turns_apart(
     routines: &[Routine],
@@ -364,7 +382,7 @@ fn turns_apart(
     may: u64,
 ) -> u64
     requires here { lines.now ≡ lines_in routines.now core.old.active.routine }
-    requires planned { Plans core.old.active.int_blocks k lines.now core.old.active.place plan.now }
+    requires planned { Plans core.old.active.int_blocks core.old.active.line k lines.now core.old.active.place plan.now }
     requires fits { core.old.active.place + length plan.now < 2 ^ 64 }
     requires closes { slice_get lines.now (core.old.active.place + length plan.now) ≡ Some CodeLine.Close }
     requires innermost { core.old.active.held ≡ Held.Upward k bound core.old.active.place ∷ rest_of core.old.active.held }
@@ -423,7 +441,7 @@ fn turns(
     may: u64,
 ) -> u64
     requires here { lines.now ≡ lines_in routines.now core.old.active.routine }
-    requires planned { Plans core.old.active.int_blocks k lines.now core.old.active.place plan.now }
+    requires planned { Plans core.old.active.int_blocks core.old.active.line k lines.now core.old.active.place plan.now }
     requires fits { core.old.active.place + length plan.now < 2 ^ 64 }
     requires closes { slice_get lines.now (core.old.active.place + length plan.now) ≡ Some CodeLine.Close }
     requires innermost { core.old.active.held ≡ Held.Upward k bound core.old.active.place ∷ rest_of core.old.active.held }
@@ -449,7 +467,7 @@ fn turns(
 }
 
 /// Turns of a loop that has begun not long ago and goes upward, at most so many, where its body is rows alone and it has
-/// many turns. Answers how many it were; there may be more. In the first turn a row may set a variable that wasn't set
+/// many turns. Answers how many there were; there may be more. In the first turn a row may set a variable that wasn't set
 /// before, and isn't at hand then, so the second turn is tried too.
 #[inline(never)]
 #[tactic(auto, using(crate::proofs::Ways::no_way))]

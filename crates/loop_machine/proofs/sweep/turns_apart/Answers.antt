@@ -6,7 +6,7 @@ use Rattle.loop_tree.specs.Run.{trail, Leads}
 use Rattle.loop_tree.specs.Values.{number_at}
 use Rattle.loop_machine.specs.declared.state.Core.{Core}
 use Rattle.loop_machine.specs.Shown.{shown, lines_in}
-use Rattle.loop_machine.specs.Plans.{IsLinked, assembled, placed, row_of}
+use Rattle.loop_machine.specs.Plans.{IsSettled, assembled, placed, row_of}
 use Rattle.loop_machine.proofs.Variables.{set_same}
 use Rattle.loop_machine.proofs.Exits.{drop_next}
 use Rattle.loop_machine.proofs.Ways.{no_way, led_on}
@@ -28,17 +28,19 @@ loop-row-init c =
       behind = ap (λ (i : ℕ). drop i plan) all;
       routine = refl;
       held = refl;
+      line = refl;
       int_blocks = refl;
       own = search rules;
     }
 
-pub obey-requires-clause-linked : goal.obey-requires-clause-linked
-obey-requires-clause-linked c =
+pub obey-requires-clause-settled : goal.obey-requires-clause-settled
+obey-requires-clause-settled c =
     let there = c.loop-row.invariant in
     let plan = c.args.plan.now in
-    subst (λ (references : List (Option ℕ)). IsLinked references c.in-Some.row.now) (sym there.int_blocks)
-    (first_at c.args.core.now.active.int_blocks c.args.k c.args.lines.now c.args.core.now.active.place plan (length plan - length c.loop-row.rest.now) c.in-Some.row.now c.in-Some.more.now c.requires.planned
-    (there.behind ∙ c.in-Some.ensures.cases.0)).1
+    subst (λ (line : ℕ). IsSettled c.loop-row.core.active.int_blocks line c.in-Some.row.now) (sym there.line)
+    (subst (λ (references : List (Option ℕ)). IsSettled references c.args.core.now.active.line c.in-Some.row.now) (sym there.int_blocks)
+    (first_at c.args.core.now.active.int_blocks c.args.core.now.active.line c.args.k c.args.lines.now c.args.core.now.active.place plan (length plan - length c.loop-row.rest.now) c.in-Some.row.now c.in-Some.more.now c.requires.planned
+    (there.behind ∙ c.in-Some.ensures.cases.0)).1)
 
 pub loop-row-preserved-in-Some : goal.loop-row-preserved-in-Some
 loop-row-preserved-in-Some c =
@@ -53,7 +55,7 @@ loop-row-preserved-in-Some c =
     let one : length more + 1 ≡ length c.loop-row.rest.now = c.in-Some.ensures.cases.1 in
     let rows = there.rows in
     let here : drop at plan ≡ p ∷ more = there.behind ∙ c.in-Some.ensures.cases.0 in
-    let planned = first_at c.args.core.now.active.int_blocks c.args.k c.args.lines.now from plan at p more c.requires.planned here in
+    let planned = first_at c.args.core.now.active.int_blocks c.args.core.now.active.line c.args.k c.args.lines.now from plan at p more c.requires.planned here in
     let line = subst (λ (lines : List CodeLine). slice_get lines (from + at) ≡ Some (code.Row (row_of c.args.k p))) (c.requires.here ∙ ap (lines_in fs) (sym there.routine)) planned.0 in
     let next : from + (length plan - length c.loop-row.rest.now) + 1 ≡ from + (length plan - length more) = omega arith in
     let later : length plan - length more ≡ length plan - length c.loop-row.rest.now + 1 = omega arith in
@@ -66,6 +68,7 @@ loop-row-preserved-in-Some c =
       behind = ap (λ (i : ℕ). drop i plan) later ∙ drop_next plan at p more here;
       routine = there.routine;
       held = there.held;
+      line = there.line;
       int_blocks = there.int_blocks;
       own = there.own;
     }
@@ -104,6 +107,7 @@ loop-row-preserved c =
       behind = ap (λ (i : ℕ). drop i plan) all;
       routine = ap (λ (core : Core). core.active.routine) begun ∙ there.routine;
       held = ap (λ (core : Core). core.active.held) begun ∙ there.held;
+      line = ap (λ (core : Core). core.active.line) begun ∙ there.line;
       int_blocks = ap (λ (core : Core). core.active.int_blocks) begun ∙ there.int_blocks;
       own = sym (set_same c.loop-row.core.active.indices c.args.k _) ∙ sym (ap (λ (core : Core). number_at core.active.indices c.args.k) begun);
     }

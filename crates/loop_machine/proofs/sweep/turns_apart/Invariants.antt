@@ -13,6 +13,7 @@ invariant-loop-row l = record {
   behind : drop (length l.plan - length l.rest) l.plan ≡ l.rest;
   routine : l.core.active.routine ≡ l.fn.core.active.routine;
   held : l.core.active.held ≡ l.fn.core.active.held;
+  line : l.core.active.line ≡ l.fn.core.active.line;
   int_blocks : l.core.active.int_blocks ≡ l.fn.core.active.int_blocks;
   own : l.own ≡ number_at l.core.active.indices l.k;
 }
