@@ -3,9 +3,9 @@ use Rattle.std.proofs.Common.{◌≡◌, ℕ, zero, suc, ◌≤◌, List, [], �
 use Rattle.std.specs.List.{flat_map}
 use Rattle.std.proofs.lemmas.List.{reverse-append}
 use Rattle.std.proofs.lemmas.Bool.{cases_eq}
-use Rattle.a95_base.specs.Lists.{EachOf, AllLater, Has, Permuted, down_to_one}
+use Rattle.a95_base.specs.Lists.{Every, Pairwise, Member, Permuted, down_to_one}
 use Rattle.a95_base.specs.Lists.Permuted.{none, skip, swap, join}
-use Rattle.a95_base.proofs.Lists.{split_at, Has-append_cases, Has-append_left, Has-append_right}
+use Rattle.a95_base.proofs.Lists.{split_at, Member-append_cases, Member-append_left, Member-append_right}
 
 pub permuted_same : {A : Type 0} (xs : List A) → Permuted xs xs
 permuted_same [] = none
@@ -63,27 +63,27 @@ Permuted-length (skip x p) = ap suc (Permuted-length p)
 Permuted-length (swap x y xs) = refl
 Permuted-length (join p q) = Permuted-length p ∙ Permuted-length q
 
-pub Permuted-EachOf : {A : Type 0} (P : A → Type 0) {xs ys : List A} → Permuted xs ys → EachOf P xs → EachOf P ys
-Permuted-EachOf P none h = h
-Permuted-EachOf P (skip x p) h = (h.0, Permuted-EachOf P p h.1)
-Permuted-EachOf P (swap x y xs) h = (h.1.0, (h.0, h.1.1))
-Permuted-EachOf P (join p q) h = Permuted-EachOf P q (Permuted-EachOf P p h)
+pub Permuted-Every : {A : Type 0} (P : A → Type 0) {xs ys : List A} → Permuted xs ys → Every P xs → Every P ys
+Permuted-Every P none h = h
+Permuted-Every P (skip x p) h = (h.0, Permuted-Every P p h.1)
+Permuted-Every P (swap x y xs) h = (h.1.0, (h.0, h.1.1))
+Permuted-Every P (join p q) h = Permuted-Every P q (Permuted-Every P p h)
 
-pub Permuted-Has : {A : Type 0} {xs ys : List A} (z : A) → Permuted xs ys → Has xs z → Has ys z
-Permuted-Has z none h = h
-Permuted-Has z (skip x p) (inl e) = inl e
-Permuted-Has z (skip x p) (inr h) = inr (Permuted-Has z p h)
-Permuted-Has z (swap x y xs) (inl e) = inr (inl e)
-Permuted-Has z (swap x y xs) (inr (inl e)) = inl e
-Permuted-Has z (swap x y xs) (inr (inr h)) = inr (inr h)
-Permuted-Has z (join p q) h = Permuted-Has z q (Permuted-Has z p h)
+pub Permuted-Member : {A : Type 0} {xs ys : List A} (z : A) → Permuted xs ys → Member xs z → Member ys z
+Permuted-Member z none h = h
+Permuted-Member z (skip x p) (inl e) = inl e
+Permuted-Member z (skip x p) (inr h) = inr (Permuted-Member z p h)
+Permuted-Member z (swap x y xs) (inl e) = inr (inl e)
+Permuted-Member z (swap x y xs) (inr (inl e)) = inl e
+Permuted-Member z (swap x y xs) (inr (inr h)) = inr (inr h)
+Permuted-Member z (join p q) h = Permuted-Member z q (Permuted-Member z p h)
 
 -- where the order of two items does not matter, each with every later one stays
-pub Permuted-AllLater : {A : Type 0} (R : A → A → Type 0) → ((x y : A) → R x y → R y x) → {xs ys : List A} → Permuted xs ys → AllLater R xs → AllLater R ys
-Permuted-AllLater R turn none h = h
-Permuted-AllLater R turn (skip x p) h = (Permuted-EachOf (R x) p h.0, Permuted-AllLater R turn p h.1)
-Permuted-AllLater R turn (swap x y xs) h = ((turn x y h.0.0, h.1.0), (h.0.1, h.1.1))
-Permuted-AllLater R turn (join p q) h = Permuted-AllLater R turn q (Permuted-AllLater R turn p h)
+pub Permuted-Pairwise : {A : Type 0} (R : A → A → Type 0) → ((x y : A) → R x y → R y x) → {xs ys : List A} → Permuted xs ys → Pairwise R xs → Pairwise R ys
+Permuted-Pairwise R turn none h = h
+Permuted-Pairwise R turn (skip x p) h = (Permuted-Every (R x) p h.0, Permuted-Pairwise R turn p h.1)
+Permuted-Pairwise R turn (swap x y xs) h = ((turn x y h.0.0, h.1.0), (h.0.1, h.1.1))
+Permuted-Pairwise R turn (join p q) h = Permuted-Pairwise R turn q (Permuted-Pairwise R turn p h)
 
 -- ---- pieces end to end
 
@@ -134,29 +134,29 @@ one_less : (xs : List ℕ) (y : ℕ) (zs all : List ℕ) (n : ℕ) → length al
 one_less xs y zs all n e is = omega (arith, length-append xs zs, length-append xs (y ∷ zs), ap length is)
 
 -- another item than the one between stands before it or behind
-other : {A : Type 0} (xs : List A) (y : A) (zs : List A) (k : A) → Has (xs ++ y ∷ zs) k → (y ≡ k → ⊥) → Has (xs ++ zs) k
+other : {A : Type 0} (xs : List A) (y : A) (zs : List A) (k : A) → Member (xs ++ y ∷ zs) k → (y ≡ k → ⊥) → Member (xs ++ zs) k
 other xs y zs k h apart =
-    elim (Has-append_cases xs (y ∷ zs) k h) [ inl a ↦ Has-append_left xs zs k a | inr b ↦ elim b [ inl e ↦ absurd (apart e) | inr c ↦ Has-append_right xs zs k c ] ]
+    elim (Member-append_cases xs (y ∷ zs) k h) [ inl a ↦ Member-append_left xs zs k a | inr b ↦ elim b [ inl e ↦ absurd (apart e) | inr c ↦ Member-append_right xs zs k c ] ]
 
 -- a list of n numbers that has each from 1 to n is a reordering of them
-pub pigeonhole : (n : ℕ) (xs : List ℕ) → length xs ≡ n → ((k : ℕ) → 1 ≤ k → k ≤ n → Has xs k) → Permuted xs (down_to_one n)
+pub pigeonhole : (n : ℕ) (xs : List ℕ) → length xs ≡ n → ((k : ℕ) → 1 ≤ k → k ≤ n → Member xs k) → Permuted xs (down_to_one n)
 pigeonhole zero [] e h = none
 pigeonhole zero (x ∷ xs) e h = absurd (omega arith)
 pigeonhole (suc n) xs e h =
     let s = split_at xs (suc n) (h (suc n) (omega arith) (omega arith)) in
     join (permuted_equal xs (s.before ++ suc n ∷ s.behind) s.is)
     (join (to_front s.before (suc n) s.behind)
-    (skip (suc n) (pigeonhole n (s.before ++ s.behind) (one_less s.before (suc n) s.behind xs n e s.is) (λ k low high. other s.before (suc n) s.behind k (let P : List ℕ → Type 0 = λ zs. Has zs k in subst P s.is (h k low (omega arith))) (omega arith)))))
+    (skip (suc n) (pigeonhole n (s.before ++ s.behind) (one_less s.before (suc n) s.behind xs n e s.is) (λ k low high. other s.before (suc n) s.behind k (let P : List ℕ → Type 0 = λ zs. Member zs k in subst P s.is (h k low (omega arith))) (omega arith)))))
 
 pub length-down_to_one : (n : ℕ) → length (down_to_one n) ≡ n
 length-down_to_one zero = refl
 length-down_to_one (suc n) = ap suc (length-down_to_one n)
 
-pub each_from_one : (n most : ℕ) → n ≤ most → EachOf (λ k. (1 ≤ k) × (k ≤ most)) (down_to_one n)
+pub each_from_one : (n most : ℕ) → n ≤ most → Every (λ k. (1 ≤ k) × (k ≤ most)) (down_to_one n)
 each_from_one zero most h = tt
 each_from_one (suc n) most h = ((omega arith, h), each_from_one n most (omega arith))
 
-pub Has-down_to_one : (n k : ℕ) → 1 ≤ k → k ≤ n → Has (down_to_one n) k
-Has-down_to_one zero k least most = absurd (omega arith)
-Has-down_to_one (suc n) k least most =
-    elim (cases_eq (suc n) k) [ inl same ↦ inl same | inr apart ↦ inr (Has-down_to_one n k least (omega arith)) ]
+pub Member-down_to_one : (n k : ℕ) → 1 ≤ k → k ≤ n → Member (down_to_one n) k
+Member-down_to_one zero k least most = absurd (omega arith)
+Member-down_to_one (suc n) k least most =
+    elim (cases_eq (suc n) k) [ inl same ↦ inl same | inr apart ↦ inr (Member-down_to_one n k least (omega arith)) ]

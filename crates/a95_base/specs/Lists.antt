@@ -3,19 +3,19 @@
 use Rattle.std.specs.Prelude.{◌≡◌, ◌⊎◌, ℕ, zero, suc, List, [], ◌∷◌, ◌++◌}
 
 -- what holds of each item
-abbrev pub EachOf : {A : Type 0} → (A → Type 0) → List A → Type 0
-EachOf P [] = Unit {0}
-EachOf P (x ∷ xs) = P x × EachOf P xs
+abbrev pub Every : {A : Type 0} → (A → Type 0) → List A → Type 0
+Every P [] = Unit {0}
+Every P (x ∷ xs) = P x × Every P xs
 
 -- what holds of each item with every item that stands later
-abbrev pub AllLater : {A : Type 0} → (A → A → Type 0) → List A → Type 0
-AllLater R [] = Unit {0}
-AllLater R (x ∷ xs) = EachOf (R x) xs × AllLater R xs
+abbrev pub Pairwise : {A : Type 0} → (A → A → Type 0) → List A → Type 0
+Pairwise R [] = Unit {0}
+Pairwise R (x ∷ xs) = Every (R x) xs × Pairwise R xs
 
 -- the item stands in the list
-abbrev pub Has : {A : Type 0} → List A → A → Type 0
-Has [] y = ⊥
-Has (x ∷ xs) y = (x ≡ y) ⊎ Has xs y
+abbrev pub Member : {A : Type 0} → List A → A → Type 0
+Member [] y = ⊥
+Member (x ∷ xs) y = (x ≡ y) ⊎ Member xs y
 
 -- the same items, each as often, in any order: neighbours change places, step by step
 pub data Permuted {A : Type 0} : List A → List A → Type 0 where

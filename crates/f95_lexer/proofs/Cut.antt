@@ -12,7 +12,7 @@ use Rattle.f95_lexer.specs.Lexeme.{bytes_of, found_at}
 use Rattle.f95_lexer.specs.Lines.{feeds_of}
 use Rattle.f95_lexer.specs.Splicing.{broken_at, spliced, line_breaks}
 use Rattle.f95_lexer.specs.Statements.{Item, Ends, items_at, items_of, rules_of, token_breaks, lexemes_behind, lexemes_of, statements_of}
-use Rattle.f95_lexer.specs.Rules.{Has, IsBroken, long_file, breaks_of}
+use Rattle.f95_lexer.specs.Rules.{Member, IsBroken, long_file, breaks_of}
 use Rattle.f95_lexer.specs.declared.token.Statements.{Statements}
 use Rattle.a95_base.specs.declared.source.PhaseError.{PhaseError}
 use Rattle.f95_lexer.specs.Spelling.{Spelled, nothing, next, Cuts}
@@ -96,7 +96,7 @@ cut_unbroken bytes statements feeds line rule c b = nothing_broken bytes line ru
 pub one_cut : (bytes : List ℕ) (a b : List Statement) (m n : ℕ) → Cuts bytes a m → Cuts bytes b n → (a ≡ b) × (m ≡ n)
 one_cut bytes a b m n x y = (cut_statements bytes a m x ∙ sym (cut_statements bytes b n y), x.counted ∙ sym y.counted)
 
-none_listed : (bytes : List ℕ) (bs : List Break) → ((b : Break) → Has b bs → Has b (breaks_of bytes)) → ((line rule : ℕ) → IsBroken bytes line rule → ⊥) → bs ≡ []
+none_listed : (bytes : List ℕ) (bs : List Break) → ((b : Break) → Member b bs → Member b (breaks_of bytes)) → ((line rule : ℕ) → IsBroken bytes line rule → ⊥) → bs ≡ []
 none_listed bytes [] among none = refl
 none_listed bytes (b ∷ bs) among none = absurd (none b.line b.rule (listed_is_broken bytes b (among b (inl refl))))
 

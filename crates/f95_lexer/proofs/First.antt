@@ -3,7 +3,7 @@ use Rattle.std.proofs.Common.{◌≡◌, ℕ, ◌<◌, ◌≤◌, ◌⊎◌, Boo
 use Rattle.std.proofs.lemmas.Bool.{cases_lt}
 use Rattle.std.proofs.lemmas.Bool.Decides.{nat_tests}
 use Rattle.f95_lexer.specs.declared.character.Break.{Break}
-use Rattle.f95_lexer.specs.Rules.{Has, ComesFirst, comes_first, first_from, first_of}
+use Rattle.f95_lexer.specs.Rules.{Member, ComesFirst, comes_first, first_from, first_of}
 
 -- break a comes before break b, or both are the same
 pub record Before (a b : Break) : Type 0 where
@@ -35,23 +35,23 @@ chained a b c x y = record {
 
 -- b is one of them, and comes before each
 pub record IsFirst (b : Break) (bs : List Break) : Type 0 where
-  pub among : Has b bs
-  pub before : (c : Break) → Has c bs → Before b c
+  pub among : Member b bs
+  pub before : (c : Break) → Member c bs → Before b c
 
 by_test : (b c f : Break) (cs : List Break) (t : Bool) → comes_first b c ≡ t → IsFirst f (cond t b c ∷ cs) → IsFirst f (b ∷ c ∷ cs)
 by_test b c f cs true e h = record {
-  among = ⊎_elim (λ (x : f ≡ b). inl x) (λ (x : Has f cs). inr (inr x)) h.among;
+  among = ⊎_elim (λ (x : f ≡ b). inl x) (λ (x : Member f cs). inr (inr x)) h.among;
   before = λ d. λ w. ⊎_elim
       (λ (x : d ≡ b). subst (λ z. Before f z) (sym x) (h.before b (inl refl)))
       (⊎_elim (λ (x : d ≡ c). subst (λ z. Before f z) (sym x) (chained f b c (h.before b (inl refl)) (record { order = first_said b.line c.line b.rule c.rule e })))
-      (λ (x : Has d cs). h.before d (inr x))) w;
+      (λ (x : Member d cs). h.before d (inr x))) w;
 }
 by_test b c f cs false e h = record {
-  among = ⊎_elim (λ (x : f ≡ c). inr (inl x)) (λ (x : Has f cs). inr (inr x)) h.among;
+  among = ⊎_elim (λ (x : f ≡ c). inr (inl x)) (λ (x : Member f cs). inr (inr x)) h.among;
   before = λ d. λ w. ⊎_elim
       (λ (x : d ≡ b). subst (λ z. Before f z) (sym x) (chained f c b (h.before c (inl refl)) (record { order = second_said b.line c.line b.rule c.rule e })))
       (⊎_elim (λ (x : d ≡ c). subst (λ z. Before f z) (sym x) (h.before c (inl refl)))
-      (λ (x : Has d cs). h.before d (inr x))) w;
+      (λ (x : Member d cs). h.before d (inr x))) w;
 }
 
 first_from_is : (b : Break) (bs : List Break) → IsFirst (first_from b bs) (b ∷ bs)

@@ -6,7 +6,7 @@ use Rattle.f95_lexer.specs.declared.character.Break.{Break}
 use Rattle.f95_lexer.specs.declared.splice.Mode.{Mode}
 use Rattle.f95_lexer.specs.declared.splice.Mode.TheVariants.{Fresh, Goes, Inside}
 use Rattle.f95_lexer.specs.Splicing.{Spliced, ends, put, breaks_rule, all_broken, fortieth, broken_at, scan, begun, line_read, from_blank, is_comment, is_empty, opened, kept, too_long, splice, spliced, unfinished, line_breaks}
-use Rattle.f95_lexer.specs.Rules.{Has, Numbered, numbered, numbered_from}
+use Rattle.f95_lexer.specs.Rules.{Member, Numbered, numbered, numbered_from}
 use Rattle.f95_lexer.specs.Lines.{lines_of}
 use Rattle.f95_lexer.proofs.Members.{Each, each_append, each_weaker, each_has, has_left, has_right}
 
@@ -90,7 +90,7 @@ pub record IsLongLine (lines : List Numbered) (b : Break) : Type 0 where
   pub counted : 1 ≤ b.line
   pub rule : b.rule ≡ 3
   pub text : List ℕ
-  pub has : Has (numbered b.line text) lines
+  pub has : Member (numbered b.line text) lines
   pub long : 132 < length text
 
 abbrev pub IsLineBreak : List Numbered → Break → Type 0
@@ -142,19 +142,19 @@ whole_sound bytes = splice_sound Fresh 1 (lines_of bytes) (omega arith) (omega a
 pub text_counted : (bytes : List ℕ) → Each IsCounted (spliced bytes).text
 text_counted bytes = (whole_sound bytes).text
 
-pub line_break_is : (bytes : List ℕ) (b : Break) → Has b (line_breaks bytes) → IsLineBreak (numbered_from 1 (lines_of bytes)) b
+pub line_break_is : (bytes : List ℕ) (b : Break) → Member b (line_breaks bytes) → IsLineBreak (numbered_from 1 (lines_of bytes)) b
 line_break_is bytes b h =
     let lines = numbered_from 1 (lines_of bytes) in
     each_has (IsLineBreak lines) b (line_breaks bytes)
     (each_append (IsLineBreak lines) (spliced bytes).breaks (unfinished (spliced bytes).mode) (whole_sound bytes).breaks
     (unfinished_sound (spliced bytes).mode lines (whole_sound bytes).mode)) h
 
-long_has : (n : ℕ) (text : List ℕ) → 132 < length text → Has (broken_at n 3) (too_long n text)
+long_has : (n : ℕ) (text : List ℕ) → 132 < length text → Member (broken_at n 3) (too_long n text)
 long_has n text long =
     let b : nat_lt 132 (length text) ≡ true = grind (arith, nat_tests) in
-    subst (λ t. Has (broken_at n 3) (cond t (broken_at n 3 ∷ []) [])) (sym b) (inl refl)
+    subst (λ t. Member (broken_at n 3) (cond t (broken_at n 3 ∷ []) [])) (sym b) (inl refl)
 
-long_found : (m : Mode) (n line : ℕ) (text : List ℕ) (texts : List (List ℕ)) → Has (numbered line text) (numbered_from n texts) → 132 < length text → Has (broken_at line 3) (splice m n texts).breaks
+long_found : (m : Mode) (n line : ℕ) (text : List ℕ) (texts : List (List ℕ)) → Member (numbered line text) (numbered_from n texts) → 132 < length text → Member (broken_at line 3) (splice m n texts).breaks
 long_found m n line text [] h long = absurd h
 long_found m n line text (t ∷ ts) h long =
     let first = line_read m n (from_blank t) in
@@ -164,11 +164,11 @@ long_found m n line text (t ∷ ts) h long =
     let same_line : line ≡ n = ap (λ (x : Numbered). x.line) e in let same_text : text ≡ t = ap (λ (x : Numbered). x.text) e in
     has_left (broken_at line 3) (too_long n t ++ first.breaks) rest.breaks
     (has_left (broken_at line 3) (too_long n t) first.breaks
-    (subst (λ l. Has (broken_at l 3) (too_long n t)) (sym same_line) (long_has n t (subst (λ x. 132 < length x) same_text long)))))
-    (λ (k : Has (numbered line text) (numbered_from (n + 1) ts)).
+    (subst (λ l. Member (broken_at l 3) (too_long n t)) (sym same_line) (long_has n t (subst (λ x. 132 < length x) same_text long)))))
+    (λ (k : Member (numbered line text) (numbered_from (n + 1) ts)).
     has_right (broken_at line 3) (too_long n t ++ first.breaks) rest.breaks (long_found first.mode (n + 1) line text ts k long))
     h
 
-pub long_line_broken : (bytes : List ℕ) (line : ℕ) (text : List ℕ) → Has (numbered line text) (numbered_from 1 (lines_of bytes)) → 132 < length text → Has (broken_at line 3) (line_breaks bytes)
+pub long_line_broken : (bytes : List ℕ) (line : ℕ) (text : List ℕ) → Member (numbered line text) (numbered_from 1 (lines_of bytes)) → 132 < length text → Member (broken_at line 3) (line_breaks bytes)
 long_line_broken bytes line text h long =
     has_left (broken_at line 3) (spliced bytes).breaks (unfinished (spliced bytes).mode) (long_found Fresh 1 line text (lines_of bytes) h long)

@@ -10,7 +10,7 @@ use Rattle.f95_lexer.specs.Lexeme.{is_dotted, found_at, bytes_of}
 use Rattle.f95_lexer.specs.Lines.{lines_of}
 use Rattle.f95_lexer.specs.Splicing.{broken_at, line_breaks, spliced}
 use Rattle.f95_lexer.specs.Statements.{Placed, lexemes_behind, lexemes_of, rules_of, if_clings, token_breaks}
-use Rattle.f95_lexer.specs.Rules.{Has, IsLine, Stands, BreaksInLines, IsBroken, ComesFirst, IsLeast, breaks_of, first_of, numbered_from, Refuses, RefusesBy}
+use Rattle.f95_lexer.specs.Rules.{Member, IsLine, Stands, BreaksInLines, IsBroken, ComesFirst, IsLeast, breaks_of, first_of, numbered_from, Refuses, RefusesBy}
 use Rattle.f95_lexer.specs.Rules as rules_of_phase
 use Rattle.a95_base.specs.declared.source.PhaseError.{PhaseError}
 use Rattle.a95_base.specs.declared.source.PhaseError.TheVariants.{Memory, Broken}
@@ -20,13 +20,13 @@ use Rattle.f95_lexer.proofs.InLines.{IsContinuationBreak, IsLongLine, IsCounted,
 
 -- A lexeme that stands somewhere, and a rule that it breaks.
 
-clings_break : (bytes : List ℕ) (line r : ℕ) (value : Option ℤ) (clings : Bool) → Stands bytes line (lexeme.Number value clings) → Has r (if_clings clings) → IsBroken bytes line r
+clings_break : (bytes : List ℕ) (line r : ℕ) (value : Option ℤ) (clings : Bool) → Stands bytes line (lexeme.Number value clings) → Member r (if_clings clings) → IsBroken bytes line r
 clings_break bytes line r value true s h = ⊎_elim
     (λ (e : r ≡ 9). subst (λ q. IsBroken bytes line q) (sym e) (rules_of_phase.number_runs_on value s))
     (λ (x : ⊥). absurd x) h
 clings_break bytes line r value false s h = absurd h
 
-word_break : (bytes : List ℕ) (line r : ℕ) (w : List ℕ) (b : Bool) → nat_lt 31 (length w) ≡ b → Stands bytes line (lexeme.Word w) → Has r (cond b (7 ∷ []) []) → IsBroken bytes line r
+word_break : (bytes : List ℕ) (line r : ℕ) (w : List ℕ) (b : Bool) → nat_lt 31 (length w) ≡ b → Stands bytes line (lexeme.Word w) → Member r (cond b (7 ∷ []) []) → IsBroken bytes line r
 word_break bytes line r w true t s h =
     let long : 31 < length w = grind (arith, nat_tests) in
     ⊎_elim
@@ -34,17 +34,17 @@ word_break bytes line r w true t s h =
     (λ (x : ⊥). absurd x) h
 word_break bytes line r w false t s h = absurd h
 
-pointed_break : (bytes : List ℕ) (line r : ℕ) (w : List ℕ) (b : Bool) → is_dotted w ≡ b → Stands bytes line (lexeme.Pointed w) → Has r (cond b [] (10 ∷ [])) → IsBroken bytes line r
+pointed_break : (bytes : List ℕ) (line r : ℕ) (w : List ℕ) (b : Bool) → is_dotted w ≡ b → Stands bytes line (lexeme.Pointed w) → Member r (cond b [] (10 ∷ [])) → IsBroken bytes line r
 pointed_break bytes line r w true t s h = absurd h
 pointed_break bytes line r w false t s h = ⊎_elim
     (λ (e : r ≡ 10). subst (λ q. IsBroken bytes line q) (sym e) (rules_of_phase.no_dotted_word w s t))
     (λ (x : ⊥). absurd x) h
 
-lexeme_break : (bytes : List ℕ) (line r : ℕ) (l : Lexeme) → Stands bytes line l → Has r (rules_of l) → IsBroken bytes line r
+lexeme_break : (bytes : List ℕ) (line r : ℕ) (l : Lexeme) → Stands bytes line l → Member r (rules_of l) → IsBroken bytes line r
 lexeme_break bytes line r (lexeme.Word w) s h = word_break bytes line r w (nat_lt 31 (length w)) refl s h
 lexeme_break bytes line r (lexeme.Number None clings) s h = ⊎_elim
     (λ (e : r ≡ 8). subst (λ q. IsBroken bytes line q) (sym e) (rules_of_phase.large_number clings s))
-    (λ (k : Has r (if_clings clings)). clings_break bytes line r None clings s k) h
+    (λ (k : Member r (if_clings clings)). clings_break bytes line r None clings s k) h
 lexeme_break bytes line r (lexeme.Number (Some z) clings) s h = clings_break bytes line r (Some z) clings s h
 lexeme_break bytes line r (lexeme.Pointed w) s h = pointed_break bytes line r w (is_dotted w) refl s h
 lexeme_break bytes line r lexeme.Stray s h = ⊎_elim
@@ -59,7 +59,7 @@ lexeme_break bytes line r (lexeme.Symbol m) s h = absurd h
 abbrev breaks_at : Placed → List Break
 breaks_at p = map (broken_at p.line) (rules_of p.lexeme)
 
-token_break_is : (bytes : List ℕ) (b : Break) → Has b (token_breaks (lexemes_of bytes)) → IsBroken bytes b.line b.rule
+token_break_is : (bytes : List ℕ) (b : Break) → Member b (token_breaks (lexemes_of bytes)) → IsBroken bytes b.line b.rule
 token_break_is bytes b h =
     let f = from_flat breaks_at b (lexemes_of bytes) h in
     let m = from_map (broken_at f.source.line) b (rules_of f.source.lexeme) f.gives in
@@ -68,44 +68,44 @@ token_break_is bytes b h =
     subst (λ l. IsBroken bytes l b.rule) (sym line) (subst (λ r. IsBroken bytes f.source.line r) (sym rule)
     (lexeme_break bytes f.source.line m.source f.source.lexeme f.has m.has))
 
-line_break_broken : (bytes : List ℕ) (b : Break) → Has b (line_breaks bytes) → IsBroken bytes b.line b.rule
+line_break_broken : (bytes : List ℕ) (b : Break) → Member b (line_breaks bytes) → IsBroken bytes b.line b.rule
 line_break_broken bytes b h = ⊎_elim
     (λ (x : IsContinuationBreak b). ⊎_elim
-    (λ (e : b.rule ≡ 4). subst (λ r. IsBroken bytes b.line r) (sym e) (rules_of_phase.many_continuations (subst (λ r. Has (broken_at b.line r) (line_breaks bytes)) e h)))
+    (λ (e : b.rule ≡ 4). subst (λ r. IsBroken bytes b.line r) (sym e) (rules_of_phase.many_continuations (subst (λ r. Member (broken_at b.line r) (line_breaks bytes)) e h)))
     (λ (k : (b.rule ≡ 5) ⊎ (b.rule ≡ 6)). ⊎_elim
-    (λ (e : b.rule ≡ 5). subst (λ r. IsBroken bytes b.line r) (sym e) (rules_of_phase.open_text (subst (λ r. Has (broken_at b.line r) (line_breaks bytes)) e h)))
-    (λ (e : b.rule ≡ 6). subst (λ r. IsBroken bytes b.line r) (sym e) (rules_of_phase.bad_continuation (subst (λ r. Has (broken_at b.line r) (line_breaks bytes)) e h))) k)
+    (λ (e : b.rule ≡ 5). subst (λ r. IsBroken bytes b.line r) (sym e) (rules_of_phase.open_text (subst (λ r. Member (broken_at b.line r) (line_breaks bytes)) e h)))
+    (λ (e : b.rule ≡ 6). subst (λ r. IsBroken bytes b.line r) (sym e) (rules_of_phase.bad_continuation (subst (λ r. Member (broken_at b.line r) (line_breaks bytes)) e h))) k)
     x.rule)
     (λ (x : IsLongLine (numbered_from 1 (lines_of bytes)) b). subst (λ r. IsBroken bytes b.line r) (sym x.rule) (rules_of_phase.long_line x.text x.has x.long))
     (line_break_is bytes b h)
 
 -- What the one list has is broken.
-pub listed_is_broken : (bytes : List ℕ) (b : Break) → Has b (breaks_of bytes) → IsBroken bytes b.line b.rule
+pub listed_is_broken : (bytes : List ℕ) (b : Break) → Member b (breaks_of bytes) → IsBroken bytes b.line b.rule
 listed_is_broken bytes b h = ⊎_elim
-    (λ (x : Has b (line_breaks bytes)). line_break_broken bytes b x)
-    (λ (x : Has b (token_breaks (lexemes_of bytes))). token_break_is bytes b x)
+    (λ (x : Member b (line_breaks bytes)). line_break_broken bytes b x)
+    (λ (x : Member b (token_breaks (lexemes_of bytes))). token_break_is bytes b x)
     (has_either b (line_breaks bytes) (token_breaks (lexemes_of bytes)) h)
 
 -- What is broken is in the list, but for the length of the file.
 
-in_tokens : (bytes : List ℕ) (line r : ℕ) (l : Lexeme) → Stands bytes line l → Has r (rules_of l) → Has (broken_at line r) (breaks_of bytes)
+in_tokens : (bytes : List ℕ) (line r : ℕ) (l : Lexeme) → Stands bytes line l → Member r (rules_of l) → Member (broken_at line r) (breaks_of bytes)
 in_tokens bytes line r l s h =
     has_right (broken_at line r) (line_breaks bytes) (token_breaks (lexemes_of bytes))
     (into_flat breaks_at (broken_at line r) (record { line = line; lexeme = l }) (lexemes_of bytes) s (into_map (broken_at line) r (rules_of l) h))
 
-in_lines : (bytes : List ℕ) (line r : ℕ) → Has (broken_at line r) (line_breaks bytes) → Has (broken_at line r) (breaks_of bytes)
+in_lines : (bytes : List ℕ) (line r : ℕ) → Member (broken_at line r) (line_breaks bytes) → Member (broken_at line r) (breaks_of bytes)
 in_lines bytes line r h = has_left (broken_at line r) (line_breaks bytes) (token_breaks (lexemes_of bytes)) h
 
-long_rule : (w : List ℕ) → 31 < length w → Has 7 (rules_of (lexeme.Word w))
+long_rule : (w : List ℕ) → 31 < length w → Member 7 (rules_of (lexeme.Word w))
 long_rule w long =
     let b : nat_lt 31 (length w) ≡ true = grind (arith, nat_tests) in
-    subst (λ t. Has {A = ℕ} 7 (cond t (7 ∷ []) [])) (sym b) (inl refl)
+    subst (λ t. Member {A = ℕ} 7 (cond t (7 ∷ []) [])) (sym b) (inl refl)
 
-clings_rule : (value : Option ℤ) → Has 9 (rules_of (lexeme.Number value true))
+clings_rule : (value : Option ℤ) → Member 9 (rules_of (lexeme.Number value true))
 clings_rule None = inr (inl refl)
 clings_rule (Some z) = inl refl
 
-pub broken_is_listed : (bytes : List ℕ) (line rule : ℕ) → length bytes ≤ 1048576 → IsBroken bytes line rule → Has (broken_at line rule) (breaks_of bytes)
+pub broken_is_listed : (bytes : List ℕ) (line rule : ℕ) → length bytes ≤ 1048576 → IsBroken bytes line rule → Member (broken_at line rule) (breaks_of bytes)
 broken_is_listed bytes line rule short (rules_of_phase.long_file long) = absurd (omega arith)
 broken_is_listed bytes line rule short (rules_of_phase.stray s) = in_tokens bytes line 2 lexeme.Stray s (inl refl)
 broken_is_listed bytes line rule short (rules_of_phase.long_line text s long) = in_lines bytes line 3 (long_line_broken bytes line text s long)
@@ -115,12 +115,12 @@ broken_is_listed bytes line rule short (rules_of_phase.bad_continuation h) = in_
 broken_is_listed bytes line rule short (rules_of_phase.long_word w s long) = in_tokens bytes line 7 (lexeme.Word w) s (long_rule w long)
 broken_is_listed bytes line rule short (rules_of_phase.large_number clings s) = in_tokens bytes line 8 (lexeme.Number None clings) s (inl refl)
 broken_is_listed bytes line rule short (rules_of_phase.number_runs_on value s) = in_tokens bytes line 9 (lexeme.Number value true) s (clings_rule value)
-broken_is_listed bytes line rule short (rules_of_phase.no_dotted_word w s not_one) = in_tokens bytes line 10 (lexeme.Pointed w) s (subst (λ t. Has {A = ℕ} 10 (cond t [] (10 ∷ []))) (sym not_one) (inl refl))
+broken_is_listed bytes line rule short (rules_of_phase.no_dotted_word w s not_one) = in_tokens bytes line 10 (lexeme.Pointed w) s (subst (λ t. Member {A = ℕ} 10 (cond t [] (10 ∷ []))) (sym not_one) (inl refl))
 
 -- The first of them.
 
 pub nothing_broken : (bytes : List ℕ) (line rule : ℕ) → length bytes ≤ 1048576 → breaks_of bytes ≡ [] → IsBroken bytes line rule → ⊥
-nothing_broken bytes line rule short none h = subst (λ l. Has (broken_at line rule) l) none (broken_is_listed bytes line rule short h)
+nothing_broken bytes line rule short none h = subst (λ l. Member (broken_at line rule) l) none (broken_is_listed bytes line rule short h)
 
 pub first_is_least : (bytes : List ℕ) (line rule : ℕ) → length bytes ≤ 1048576 → first_of (breaks_of bytes) ≡ Some (broken_at line rule) → IsLeast bytes line rule
 first_is_least bytes line rule short e =
@@ -141,7 +141,7 @@ placed zero (c ∷ cs) h = (record { counted = h.0.counted }, placed (found_at c
 stands_counted : (bytes : List ℕ) (line : ℕ) (l : Lexeme) → Stands bytes line l → 1 ≤ line
 stands_counted bytes line l s = (each_has IsPlaced (record { line = line; lexeme = l }) (lexemes_of bytes) (placed 0 (spliced bytes).text (text_counted bytes)) s).counted
 
-in_line_counted : (bytes : List ℕ) (b : Break) → Has b (line_breaks bytes) → 1 ≤ b.line
+in_line_counted : (bytes : List ℕ) (b : Break) → Member b (line_breaks bytes) → 1 ≤ b.line
 in_line_counted bytes b h = ⊎_elim
     (λ (x : IsContinuationBreak b). x.counted)
     (λ (x : IsLongLine (numbered_from 1 (lines_of bytes)) b). x.counted)

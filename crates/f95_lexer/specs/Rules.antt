@@ -11,9 +11,9 @@ use Rattle.f95_lexer.specs.Splicing.{broken_at, line_breaks}
 use Rattle.f95_lexer.specs.Statements.{lexemes_of, token_breaks}
 
 -- x is one of them
-abbrev pub Has : {A : Type 0} → A → List A → Type 0
-Has x [] = ⊥
-Has x (y ∷ ys) = (x ≡ y) ⊎ Has x ys
+abbrev pub Member : {A : Type 0} → A → List A → Type 0
+Member x [] = ⊥
+Member x (y ∷ ys) = (x ≡ y) ⊎ Member x ys
 
 -- a line with its number
 pub record Numbered : Type 0 where
@@ -29,15 +29,15 @@ numbered_from n (text ∷ texts) = numbered n text ∷ numbered_from (n + 1) tex
 
 -- this is that line of the text
 abbrev pub IsLine : List ℕ → ℕ → List ℕ → Type 0
-IsLine bytes line text = Has (numbered line text) (numbered_from 1 (lines_of bytes))
+IsLine bytes line text = Member (numbered line text) (numbered_from 1 (lines_of bytes))
 
 -- this begins on that line
 abbrev pub Stands : List ℕ → ℕ → Lexeme → Type 0
-Stands bytes line l = Has (record { line = line; lexeme = l }) (lexemes_of bytes)
+Stands bytes line l = Member (record { line = line; lexeme = l }) (lexemes_of bytes)
 
 -- Splicing says on which lines rules 4, 5 and 6 are broken.
 abbrev pub BreaksInLines : List ℕ → ℕ → ℕ → Type 0
-BreaksInLines bytes line rule = Has (broken_at line rule) (line_breaks bytes)
+BreaksInLines bytes line rule = Member (broken_at line rule) (line_breaks bytes)
 
 -- the bytes break the rule on the line
 pub data IsBroken (bytes : List ℕ) : ℕ → ℕ → Type 0 where

@@ -8,7 +8,7 @@ use Rattle.std.proofs.lemmas.Bool.Decides.{nat_tests}
 use Rattle.a95_base.specs.declared.scalar.Scalar.{Scalar}
 use Rattle.a95_base.specs.declared.scalar.Scalar.TheVariants as scalar
 use Rattle.a95_base.specs.Record.{record_text}
-use Rattle.a95_base.specs.Lists.{EachOf}
+use Rattle.a95_base.specs.Lists.{Every}
 use Rattle.rank_one.specs.declared.unit.Array.{Array}
 use Rattle.rank_one.specs.declared.unit.Sum.{Sum}
 use Rattle.rank_one.specs.Meaning.{array_at, sum_value, elements}
@@ -127,7 +127,7 @@ module _ (functions : List Function) (final told : List ℕ) (decls : List Array
   whole_front : (xs : List ℤ) (n : ℕ) → length xs ≡ n → take n xs ≡ xs
   whole_front xs n e = take_all n xs (omega arith)
 
-  shows_go : (line : ℕ) (places : List ℕ) → EachOf (IsThere decls arrays) places → (cost : ℕ) (before : List Scalar) (more : List Stmt) (rest : List CodeLine) (braces : List Brace) (v : Vars)
+  shows_go : (line : ℕ) (places : List ℕ) → Every (IsThere decls arrays) places → (cost : ℕ) (before : List Scalar) (more : List Stmt) (rest : List CodeLine) (braces : List Brace) (v : Vars)
       → Holds arrays v.blocks v.references v.made → v.pending ≡ before
       → ((w : Vars) → Holds arrays w.blocks w.references w.made → w.pending ≡ before ++ shown_values arrays places → Good functions final cost told (at w (flats more ++ rest) braces))
       → Good functions final (cost + shown_cost decls places) told (at v (flats (shows line places ++ more) ++ rest) braces)
@@ -144,7 +144,7 @@ module _ (functions : List Function) (final told : List ℕ) (decls : List Array
       (inv.shown ∙ ap (λ (ys : List ℤ). before ++ map scalar.Int ys) (whole_front xs n there.0.size))
       (λ y kept full. go y kept (full ∙ append_assoc before values (shown_values arrays ps)))))
 
-  pub printing_does : (line : ℕ) (places : List ℕ) → EachOf (IsThere decls arrays) places
+  pub printing_does : (line : ℕ) (places : List ℕ) → Every (IsThere decls arrays) places
       → (cost : ℕ) (more : List Stmt) (rest : List CodeLine) (braces : List Brace) (v : Vars) → Holds arrays v.blocks v.references v.made → v.pending ≡ []
       → ((w : Vars) → Holds arrays w.blocks w.references w.made → w.pending ≡ []
       → Good functions final cost (told ++ (record_text (shown_values arrays places) ++ 10 ∷ [])) (at w (flats more ++ rest) braces))

@@ -15,7 +15,7 @@ use Rattle.loop_tree.specs.State as machine
 use Rattle.loop_tree.specs.State.{End, Next, Goes, Ends}
 use Rattle.loop_tree.specs.Machine.{step}
 use Rattle.loop_tree.specs.Run.{Trail, trail, Leads, Outcome, Finished, Going, FinishesAt, GoesOnAt, Runs, start}
-use Rattle.loop_tree.specs.RunLaws.{IsFront}
+use Rattle.loop_tree.specs.RunLaws.{IsPrefix}
 use Rattle.loop_tree.proofs.Runs.{linear, last, grows}
 use Rattle.f95a_core.specs.Lowered.{program_of}
 use Rattle.f95a_core.specs.Follows as follows
@@ -46,7 +46,7 @@ module _ (functions : List Function) (final : List ℕ) (begin : Trail) (r : Tra
       by (machine.Faulted kind line) e t = cc
       by (machine.Stuck why) e t = absurd cc
 
-  goes_on : (told : List ℕ) (limit : ℕ) → GoesOnAt functions begin limit told → IsFront told final
+  goes_on : (told : List ℕ) (limit : ℕ) → GoesOnAt functions begin limit told → IsPrefix told final
   goes_on told limit g =
       elim (linear functions begin r g.last there g.leads) [
         | inl way ↦ record { more = []; is = sym wrote ∙ ap (λ (t : Trail). t.told) (sym (last functions r g.last machine.Ended ends way)) ∙ g.wrote ∙ sym (append-nil told) }

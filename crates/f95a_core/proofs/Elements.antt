@@ -8,7 +8,7 @@ use Rattle.std.specs.Prelude.{◌+ℤ◌, ◌-ℤ◌, ◌*ℤ◌}
 use Rattle.a95_base.specs.Integer.{wrapped, product_of}
 use Rattle.std.specs.Int.{int_wrap, w64}
 use Rattle.a95_base.proofs.Wrapping.{wrapped-wrapped, wrapped-int_wrap, wrapped_small}
-use Rattle.a95_base.specs.Lists.{EachOf}
+use Rattle.a95_base.specs.Lists.{Every}
 use Rattle.rank_one.specs.declared.unit.Sum.{Sum}
 use Rattle.rank_one.specs.declared.unit.Addend.{Addend}
 use Rattle.rank_one.specs.declared.unit.Term.{Term}
@@ -64,18 +64,18 @@ FactorFits arrays n (factor.Array p) = (p < length arrays) × (length (array_at 
 
 pub record TermFits (arrays : List (List ℤ)) (n : ℕ) (term : Term) : Type 0 where
   pub first : FactorFits arrays n term.first
-  pub rest : EachOf (FactorFits arrays n) term.rest
+  pub rest : Every (FactorFits arrays n) term.rest
 
 pub record SumFits (arrays : List (List ℤ)) (n : ℕ) (sum : Sum) : Type 0 where
   pub first : TermFits arrays n sum.first
-  pub rest : EachOf (λ (a : Addend). TermFits arrays n a.term) sum.rest
+  pub rest : Every (λ (a : Addend). TermFits arrays n a.term) sum.rest
 
 module _ (arrays : List (List ℤ)) (n : ℕ) where
   factor_shows : (f : Factor) → FactorFits arrays n f → Shows n (factor_value arrays f) (λ i. factor_at arrays i f)
   factor_shows (factor.Number k) fits = record { size = length-replicate n (pos k); each = λ i h. get_or-replicate n i (pos k) (pos 0) h }
   factor_shows (factor.Array p) fits = record { size = fits.1; each = λ i h. refl }
 
-  factors_show : (fs : List Factor) → EachOf (FactorFits arrays n) fs → (v : Value) (f : ℕ → ℤ) → Shows n v f
+  factors_show : (fs : List Factor) → Every (FactorFits arrays n) fs → (v : Value) (f : ℕ → ℤ) → Shows n v f
       → Shows n (fold (λ value more. combined product_of value (factor_value arrays more)) v fs) (λ i. term_from arrays i (f i) fs)
   factors_show [] fits v f s = s
   factors_show (g ∷ fs) fits v f s =
@@ -85,7 +85,7 @@ module _ (arrays : List (List ℤ)) (n : ℕ) where
   term_shows : (t : Term) → TermFits arrays n t → Shows n (term_value arrays t) (λ i. term_at arrays i t)
   term_shows t fits = factors_show t.rest fits.rest (factor_value arrays t.first) (λ i. factor_at arrays i t.first) (factor_shows t.first fits.first)
 
-  addends_show : (more : List Addend) → EachOf (λ (a : Addend). TermFits arrays n a.term) more → (v : Value) (f : ℕ → ℤ) → Shows n v f
+  addends_show : (more : List Addend) → Every (λ (a : Addend). TermFits arrays n a.term) more → (v : Value) (f : ℕ → ℤ) → Shows n v f
       → Shows n (fold (λ value a. combined (added a.minus) value (term_value arrays a.term)) v more) (λ i. sum_from arrays i (f i) more)
   addends_show [] fits v f s = s
   addends_show (a ∷ more) fits v f s =
@@ -100,14 +100,14 @@ module _ (arrays : List (List ℤ)) (n : ℕ) where
     factor_has (factor.Number k) fits = tt
     factor_has (factor.Array p) fits = (fits.0, subst (λ m. i < m) (sym fits.1) within)
 
-    factors_have : (fs : List Factor) → EachOf (FactorFits arrays n) fs → EachOf (FactorHas arrays i) fs
+    factors_have : (fs : List Factor) → Every (FactorFits arrays n) fs → Every (FactorHas arrays i) fs
     factors_have [] fits = tt
     factors_have (f ∷ fs) fits = (factor_has f fits.0, factors_have fs fits.1)
 
     term_has : (t : Term) → TermFits arrays n t → TermHas arrays i t
     term_has t fits = record { first = factor_has t.first fits.first; rest = factors_have t.rest fits.rest }
 
-    addends_have : (more : List Addend) → EachOf (λ (a : Addend). TermFits arrays n a.term) more → EachOf (λ (a : Addend). TermHas arrays i a.term) more
+    addends_have : (more : List Addend) → Every (λ (a : Addend). TermFits arrays n a.term) more → Every (λ (a : Addend). TermHas arrays i a.term) more
     addends_have [] fits = tt
     addends_have (a ∷ more) fits = (term_has a.term fits.0, addends_have more fits.1)
 

@@ -5,7 +5,7 @@ use Rattle.std.proofs.Math.Seq.{take-append_seam}
 use Rattle.loop_tree.specs.declared.tree.Function.{Function}
 use Rattle.loop_tree.specs.State.{State}
 use Rattle.loop_tree.specs.Run.{trail, start}
-use Rattle.loop_tree.specs.RunLaws.{IsFront, SomeOutcome}
+use Rattle.loop_tree.specs.RunLaws.{IsPrefix, SomeOutcome}
 use Rattle.loop_machine.specs.declared.end.End.{End}
 use Rattle.loop_machine.specs.declared.end.End.TheVariants as end
 use Rattle.loop_machine.specs.Running as machine
@@ -16,7 +16,7 @@ front_is_told : SomeOutcome → (functions : List Function) (input : List ℕ) (
     → machine.TellsFront functions (start functions input) turns old new → TellsFront functions input turns old new
 front_is_told some functions input turns old new h =
     let whole = some functions (trail 0 [] (start functions input)) turns (omega arith) in
-    let front : IsFront h.written whole.told = h.front whole.told whole.outcome whole.runs in
+    let front : IsPrefix h.written whole.told = h.front whole.told whole.outcome whole.runs in
     let taken : take (length h.written) whole.told ≡ h.written = ap (take (length h.written)) front.is ∙ take-append_seam h.written front.more in
     record {
       said = whole.told;

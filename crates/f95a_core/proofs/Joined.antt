@@ -6,12 +6,12 @@ use Rattle.loop_tree.specs.Program.{ReadsText}
 use Rattle.loop_tree.specs.State as machine
 use Rattle.loop_tree.specs.Run as run
 use Rattle.loop_tree.specs.Run.{trail, start, Mach}
-use Rattle.loop_tree.specs.RunLaws.{IsFront, OneOutcome, EndStays, OutputGrows, SomeOutcome}
+use Rattle.loop_tree.specs.RunLaws.{IsPrefix, OneOutcome, EndStays, OutputGrows, SomeOutcome}
 use Rattle.loop_text.specs.Refused.{OneProgram}
 use Rattle.f95a_core.specs.Follows.{Outcome, Ended, Faulted, Going, ProgramDoes, source_run, turn_bound}
 use Rattle.f95a_core.specs.Headline.{Reaches, Headline}
 
-front_of_front : (a b c : List ℕ) → IsFront a b → IsFront b c → IsFront a c
+front_of_front : (a b c : List ℕ) → IsPrefix a b → IsPrefix b c → IsPrefix a c
 front_of_front a b c f g = record { more = f.more ++ g.more; is = g.is ∙ ap (λ (x : List ℕ). x ++ g.more) f.is ∙ append_assoc a f.more g.more }
 
 -- a run of as many turns as the bound, or more

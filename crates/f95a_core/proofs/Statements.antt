@@ -6,7 +6,7 @@ use Rattle.std.proofs.lemmas.List.{get_or-set_same, get_or-set_other, get_or_pas
 use Rattle.std.proofs.Math.ListN.{length-set}
 use Rattle.std.proofs.lemmas.Bool.{leb-true}
 use Rattle.std.proofs.lemmas.Bool.Decides.{nat_tests}
-use Rattle.a95_base.specs.Lists.{EachOf}
+use Rattle.a95_base.specs.Lists.{Every}
 use Rattle.a95_base.proofs.Wrapping.{wrapped_small}
 use Rattle.rank_one.specs.declared.unit.Array.{Array}
 use Rattle.rank_one.specs.declared.unit.Statement.{Statement}
@@ -77,14 +77,14 @@ module _ (decls : List Array) (arrays : List (List ℤ)) (stands : Stands decls 
       let there = extent_there decls n p h in
       (subst (λ m. p < m) (sym stands.counted) there.0, stands.sized p ∙ there.1)
 
-  factors_fit : (fs : List Factor) → list_all (is_typed_factor decls n) fs ≡ true → EachOf (FactorFits arrays n) fs
+  factors_fit : (fs : List Factor) → list_all (is_typed_factor decls n) fs ≡ true → Every (FactorFits arrays n) fs
   factors_fit [] h = tt
   factors_fit (f ∷ fs) h = let parts = both (is_typed_factor decls n f) (list_all (is_typed_factor decls n) fs) h in (factor_fits f parts.0, factors_fit fs parts.1)
 
   term_fits : (t : Term) → list_all (is_typed_factor decls n) (factors_of_term t) ≡ true → TermFits arrays n t
   term_fits t h = let parts = both (is_typed_factor decls n t.first) (list_all (is_typed_factor decls n) t.rest) h in record { first = factor_fits t.first parts.0; rest = factors_fit t.rest parts.1 }
 
-  addends_fit : (more : List Addend) → list_all (is_typed_factor decls n) (flat_map (λ (a : Addend). factors_of_term a.term) more) ≡ true → EachOf (λ (a : Addend). TermFits arrays n a.term) more
+  addends_fit : (more : List Addend) → list_all (is_typed_factor decls n) (flat_map (λ (a : Addend). factors_of_term a.term) more) ≡ true → Every (λ (a : Addend). TermFits arrays n a.term) more
   addends_fit [] h = tt
   addends_fit (a ∷ more) h =
       let parts = all_front (is_typed_factor decls n) (factors_of_term a.term) (flat_map (λ (a : Addend). factors_of_term a.term) more) h in
@@ -139,7 +139,7 @@ statements_cost decls [] = 0
 statements_cost decls (s ∷ ss) = statements_cost decls ss + action_cost decls s.action
 
 places_there : (decls : List Array) (arrays : List (List ℤ)) → list_all (λ (a : Array). nat_le a.extent (2 ^ 24)) decls ≡ true → Stands decls arrays
-    → (ps : List ℕ) → list_all (λ p. nat_lt p (length decls)) ps ≡ true → EachOf (IsThere decls arrays) ps
+    → (ps : List ℕ) → list_all (λ p. nat_lt p (length decls)) ps ≡ true → Every (IsThere decls arrays) ps
 places_there decls arrays small stands [] h = tt
 places_there decls arrays small stands (p ∷ ps) h =
     let parts = both (nat_lt p (length decls)) (list_all (λ q. nat_lt q (length decls)) ps) h in

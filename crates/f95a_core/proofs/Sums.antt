@@ -4,7 +4,7 @@ use Rattle.std.specs.Prelude.{if◌then◌else◌, fold, ◌+ℤ◌, ◌-ℤ◌,
 use Rattle.std.specs.Int.{w64, int_wrap}
 use Rattle.std.proofs.lemmas.Bool.Decides.{nat_tests}
 use Rattle.a95_base.specs.Integer.{wrapped, product_of}
-use Rattle.a95_base.specs.Lists.{EachOf}
+use Rattle.a95_base.specs.Lists.{Every}
 use Rattle.rank_one.specs.declared.unit.Sum.{Sum}
 use Rattle.rank_one.specs.declared.unit.Addend.{Addend}
 use Rattle.rank_one.specs.declared.unit.Term.{Term}
@@ -78,11 +78,11 @@ FactorHas arrays i (factor.Array p) = (p < length arrays) × (i < length (array_
 
 pub record TermHas (arrays : List (List ℤ)) (i : ℕ) (term : Term) : Type 0 where
   pub first : FactorHas arrays i term.first
-  pub rest : EachOf (FactorHas arrays i) term.rest
+  pub rest : Every (FactorHas arrays i) term.rest
 
 pub record SumHas (arrays : List (List ℤ)) (i : ℕ) (sum : Sum) : Type 0 where
   pub first : TermHas arrays i sum.first
-  pub rest : EachOf (λ (a : Addend). TermHas arrays i a.term) sum.rest
+  pub rest : Every (λ (a : Addend). TermHas arrays i a.term) sum.rest
 
 -- ---- the arrays in the blocks
 
@@ -194,7 +194,7 @@ module _ (functions : List Function) (final told : List ℕ) (cost : ℕ) where
           mid x (factor_at arrays i f) (steady.same ints mid loaded ∙ first) second rest (λ after value kept.
           go after value (keeps_more n ints mid after (keeps_second n ints mid loaded) kept)))
 
-      product_goes : (fs : List Factor) → EachOf (FactorHas arrays i) fs → (left : Atom) → Steady 2 left → (x : ℤ) (ints : List ℤ) → value_in ints left ≡ x → (rest : List CodeLine)
+      product_goes : (fs : List Factor) → Every (FactorHas arrays i) fs → (left : Atom) → Steady 2 left → (x : ℤ) (ints : List ℤ) → value_in ints left ≡ x → (rest : List CodeLine)
           → ((after : List ℤ) → value_in after (product_atom n left fs) ≡ wide_term_from arrays i x fs → Keeps n ints after → Goes_on after rest)
           → Goes_on ints (flats (product_code n left fs) ++ rest)
       product_goes [] has left steady x ints first rest go = go ints first (keeps_all n ints)
@@ -243,7 +243,7 @@ module _ (functions : List Function) (final told : List ℕ) (cost : ℕ) where
             operation_goes 0 left operator.Add (term_atom 1 more.term) (λ p q. p +ℤ q) (λ ints' behind. step_add functions (with_ints ints') behind braces 0 left (term_atom 1 more.term))
             mid x (wide_term_at arrays i more.term) one two rest (λ after value kept. go after value)
 
-    addends_go : (more : List Addend) → EachOf (λ (a : Addend). TermHas arrays i a.term) more → (left : Atom) → Steady 1 left → (x : ℤ) (ints : List ℤ) → value_in ints left ≡ x → (rest : List CodeLine)
+    addends_go : (more : List Addend) → Every (λ (a : Addend). TermHas arrays i a.term) more → (left : Atom) → Steady 1 left → (x : ℤ) (ints : List ℤ) → value_in ints left ≡ x → (rest : List CodeLine)
         → ((after : List ℤ) → value_in after (addends_atom left more) ≡ wide_sum_from arrays i x more → Goes_on after rest)
         → Goes_on ints (flats (addends_code left more) ++ rest)
     addends_go [] has left steady x ints first rest go = go ints first

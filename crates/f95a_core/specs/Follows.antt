@@ -7,7 +7,7 @@ use Rattle.loop_tree.specs.declared.tree.Function.{Function}
 use Rattle.loop_tree.specs.State as machine
 use Rattle.loop_tree.specs.Run as run
 use Rattle.loop_tree.specs.Run.{Mach}
-use Rattle.loop_tree.specs.RunLaws.{IsFront}
+use Rattle.loop_tree.specs.RunLaws.{IsPrefix}
 
 -- what the run of a source comes to: its output, and a fault with its line, or the turn that it may not begin
 pub data Outcome : Type 0 where
@@ -32,7 +32,7 @@ turn_bound bytes turns = 2 ^ 64 * ((bytes + 1) * (bytes + 1)) * (turns + 1)
 abbrev pub ProgramDoes : Outcome → (List ℕ → run.Outcome → Type 0) → Type 0
 ProgramDoes (Ended written) runs = runs written (run.Finished machine.Ended)
 ProgramDoes (Faulted written kind line) runs = runs written (run.Finished (machine.Faulted kind line))
-ProgramDoes (Going written) runs = (told : List ℕ) (outcome : run.Outcome) → runs told outcome → IsFront written told
+ProgramDoes (Going written) runs = (told : List ℕ) (outcome : run.Outcome) → runs told outcome → IsPrefix written told
 
 -- what the program ends or faults with, the source does; while the program goes on, the source's output begins with its;
 -- it is never stuck
@@ -40,7 +40,7 @@ abbrev pub SourceDid : Outcome → List ℕ → run.Outcome → Type 0
 SourceDid source told (run.Finished machine.Ended) = source ≡ Ended told
 SourceDid source told (run.Finished (machine.Faulted kind line)) = source ≡ Faulted told kind line
 SourceDid source told (run.Finished (machine.Stuck why)) = ⊥
-SourceDid source told run.Going = IsFront told (written_by source)
+SourceDid source told run.Going = IsPrefix told (written_by source)
 
 -- for every input and every number of turns, in both directions
 pub record Follows (unit : Unit) (program : List Function) (bytes : ℕ) : Type 0 where

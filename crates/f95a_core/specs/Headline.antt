@@ -4,7 +4,7 @@ use Rattle.rank_one.specs.declared.unit.Unit.{Unit}
 use Rattle.rank_one.specs.Reading.{Reads}
 use Rattle.loop_tree.specs.State as machine
 use Rattle.loop_tree.specs.Run as run
-use Rattle.loop_tree.specs.RunLaws.{IsFront}
+use Rattle.loop_tree.specs.RunLaws.{IsPrefix}
 use Rattle.f95a_core.specs.Building.{Builds}
 use Rattle.f95a_core.specs.Running.{Executes}
 use Rattle.f95a_core.specs.Follows.{Outcome, Ended, Faulted, Going, source_run, turn_bound, SourceDid}
@@ -13,7 +13,7 @@ use Rattle.f95a_core.specs.Follows.{Outcome, Ended, Faulted, Going, source_run, 
 abbrev pub Reaches : Outcome → List ℕ → run.Outcome → Type 0
 Reaches (Ended written) said outcome = (said ≡ written) × (outcome ≡ run.Finished machine.Ended)
 Reaches (Faulted written kind line) said outcome = (said ≡ written) × (outcome ≡ run.Finished (machine.Faulted kind line))
-Reaches (Going written) said outcome = IsFront written said
+Reaches (Going written) said outcome = IsPrefix written said
 
 -- The run of a text on an input, within so many turns, against the unit of its source: what the run ends or faults with,
 -- the source does; while it goes on, what it wrote begins what the source writes; it is never stuck. And with as many turns

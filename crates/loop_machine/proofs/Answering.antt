@@ -6,7 +6,7 @@ use Rattle.loop_tree.specs.declared.tree.Function.{Function}
 use Rattle.loop_tree.specs.State as state
 use Rattle.loop_tree.specs.State.{State, Next, Goes, Ends}
 use Rattle.loop_tree.specs.Run.{Trail, trail, Leads, Outcome, Finished, Going, Runs, lines_at_start}
-use Rattle.loop_tree.specs.RunLaws.{IsFront}
+use Rattle.loop_tree.specs.RunLaws.{IsPrefix}
 use Rattle.loop_tree.proofs.Runs.{linear, grows, last, not_past}
 use Rattle.loop_tree.proofs.Outcomes.{one_outcome}
 use Rattle.loop_machine.specs.declared.state.Came.{Came}
@@ -28,7 +28,7 @@ module _ (functions : List Function) (from : State) (turns : ℕ) where
   begin = trail 0 [] from
 
   -- what was written up to a state within the turns is a front of what the run writes
-  reached_front : (used : ℕ) (written : List ℕ) (to : State) → used ≤ turns → Leads functions begin (trail used written to) → (told : List ℕ) (outcome : Outcome) → Runs functions begin turns told outcome → IsFront written told
+  reached_front : (used : ℕ) (written : List ℕ) (to : State) → used ≤ turns → Leads functions begin (trail used written to) → (told : List ℕ) (outcome : Outcome) → Runs functions begin turns told outcome → IsPrefix written told
   reached_front used written to h way told (Finished how) f =
       elim (linear functions begin (trail used written to) f.last way f.leads) [
         | inl on ↦ let more = grows functions (trail used written to) f.last on in record { more = more.more; is = sym f.wrote ∙ more.told }
@@ -40,7 +40,7 @@ module _ (functions : List Function) (from : State) (turns : ℕ) where
         | inr on ↦ record { more = []; is = sym f.wrote ∙ ap (λ (t : Trail). t.told) (sym (not_past functions f.last (trail used written to) f.waits (omega (arith, f.spent)) on)) ∙ sym (append-nil written) }
       ]
 
-  front_of_front : (n : ℕ) (written told : List ℕ) → IsFront written told → IsFront (take n written) told
+  front_of_front : (n : ℕ) (written told : List ℕ) → IsPrefix written told → IsPrefix (take n written) told
   front_of_front n written told f =
       record { more = drop n written ++ f.more; is = f.is ∙ ap (λ (w : List ℕ). w ++ f.more) (sym (take-append-drop n written)) ∙ append_assoc (take n written) (drop n written) f.more }
 

@@ -5,7 +5,7 @@ use Rattle.loop_tree.specs.declared.tree.Function.{Function}
 use Rattle.loop_tree.specs.State as state
 use Rattle.loop_tree.specs.State.{State}
 use Rattle.loop_tree.specs.Run.{trail, Outcome, Finished, Going, GoesOnAt, Runs}
-use Rattle.loop_tree.specs.RunLaws.{IsFront}
+use Rattle.loop_tree.specs.RunLaws.{IsPrefix}
 use Rattle.loop_machine.specs.declared.end.End.{End}
 use Rattle.loop_machine.specs.declared.end.End.TheVariants as end
 
@@ -46,7 +46,7 @@ pub record Waits (functions : List Function) (from : State) (turns : ℕ) (to : 
 pub record TellsFront (functions : List Function) (from : State) (turns : ℕ) (old new : Option (List ℕ)) : Type 0 where
   pub written : List ℕ
   pub appended : Appends old new written
-  pub front : (told : List ℕ) (outcome : Outcome) → Runs functions (trail 0 [] from) turns told outcome → IsFront written told
+  pub front : (told : List ℕ) (outcome : Outcome) → Runs functions (trail 0 [] from) turns told outcome → IsPrefix written told
 
 -- what an answer says of the run from a state with so many turns, which leaves another state
 abbrev pub RunsTo : List Function → State → ℕ → End → State → Option (List ℕ) → Option (List ℕ) → Type 0

@@ -3,16 +3,16 @@ use Rattle.std.proofs.Common.{◌≡◌, ℕ, suc, ◌+◌, ◌-◌, ◌<◌, �
 use Rattle.std.specs.Prelude.{IsSome, IfSome, IfNone, find, option_map, option_and_then}
 use Rattle.std.proofs.lemmas.Bool.{not-true, false≢true}
 use Rattle.std.proofs.lemmas.List.{take_all, take_more_set, append-nil, length-take}
-use Rattle.a95_base.specs.Lists.{Has, Permuted, down_to_one}
+use Rattle.a95_base.specs.Lists.{Member, Permuted, down_to_one}
 use Rattle.a95_base.proofs.Lists.{each_has}
-use Rattle.a95_base.proofs.Permuted.{length-down_to_one, each_from_one, Has-down_to_one, permuted_back, Permuted-Has}
+use Rattle.a95_base.proofs.Permuted.{length-down_to_one, each_from_one, Member-down_to_one, permuted_back, Permuted-Member}
 use Rattle.rank_shape.specs.declared.distance.Entry.{Entry}
 use Rattle.rank_shape.specs.Order.{Level, IsOrder, levels}
 use Rattle.rank_shape.specs.Fields.{loops_of-levels}
 use Rattle.loop_order.specs.Legal.{IsLegal}
 use Rattle.loop_order.specs.Choice.{is_up, some_entry, suits, unsettled, without, choice, chosen}
 use Rattle.loop_order.specs.Left.{is_taken, loops_left, open_distances}
-use Rattle.loop_order.proofs.Signs.{EachOf-filter}
+use Rattle.loop_order.proofs.Signs.{Every-filter}
 use Rattle.loop_order.proofs.Choices.{choice_legal, choice_none, find_some}
 use Rattle.loop_order.proofs.Lefts.{all_open_at_first, all_left_at_first, one_more_taken, one_more_settled}
 
@@ -49,7 +49,7 @@ pub found_left : (rank : ℕ) (taken : List Bool) (p : ℕ → Bool) (loop : ℕ
 found_left rank taken p loop found =
     let known = find_some p (loops_left rank taken) loop (sym found) in
     let here = each_has (λ l. ((1 ≤ l) × (l ≤ rank)) × (not (is_taken taken l) ≡ true)) (loops_left rank taken) loop
-    (EachOf-filter (λ l. (1 ≤ l) × (l ≤ rank)) (λ l. not (is_taken taken l)) (down_to_one rank) (each_from_one rank rank (omega arith))) known.1 in
+    (Every-filter (λ l. (1 ≤ l) × (l ≤ rank)) (λ l. not (is_taken taken l)) (down_to_one rank) (each_from_one rank rank (omega arith))) known.1 in
     record { least = here.0.0; most = here.0.1; free = not-true (is_taken taken loop) here.1 }
 
 -- one more level
@@ -107,11 +107,11 @@ whole_choice rank level taken downs loops distances above loops_long downs_long 
     ∙ ap Some (append-nil (levels (take level loops) (take level downs)) ∙ ap (λ ns. levels ns (take level downs)) (take_all level loops (omega arith)) ∙ ap (levels loops) (take_all level downs (omega arith)))
 
 -- the order made of the levels is the choice
-pub made_is : (rank : ℕ) (loops : List ℕ) (downs : List Bool) (distances : List (List Entry)) (made : Option (List Level)) → length loops ≡ rank → length downs ≡ rank → choice rank (down_to_one rank) distances ≡ Some (levels loops downs) → (((k : ℕ) → 1 ≤ k → k ≤ rank → Has loops k) → IsSome made) → IfSome made (λ order. order ≡ levels loops downs) → made ≡ choice rank (down_to_one rank) distances
+pub made_is : (rank : ℕ) (loops : List ℕ) (downs : List Bool) (distances : List (List Entry)) (made : Option (List Level)) → length loops ≡ rank → length downs ≡ rank → choice rank (down_to_one rank) distances ≡ Some (levels loops downs) → (((k : ℕ) → 1 ≤ k → k ≤ rank → Member loops k) → IsSome made) → IfSome made (λ order. order ≡ levels loops downs) → made ≡ choice rank (down_to_one rank) distances
 made_is rank loops downs distances None loops_long downs_long chosen some is =
     let suited = choice_legal rank (down_to_one rank) distances (levels loops downs) (length-down_to_one rank) chosen in
     let named : Permuted loops (down_to_one rank) = (let P : List ℕ → Type 0 = λ ns. Permuted ns (down_to_one rank) in subst P (loops_of-levels loops downs (omega arith)) suited.named) in
-    absurd (false≢true (some (λ k least most. Permuted-Has k (permuted_back named) (Has-down_to_one rank k least most))))
+    absurd (false≢true (some (λ k least most. Permuted-Member k (permuted_back named) (Member-down_to_one rank k least most))))
 made_is rank loops downs distances (Some order) loops_long downs_long chosen some is = ap Some is ∙ sym chosen
 
 -- ---- what the choice promises

@@ -4,8 +4,8 @@ use Rattle.std.specs.Prelude.{IsTrue, ◌↔◌, filter}
 use Rattle.std.specs.List.{list_all}
 use Rattle.std.proofs.lemmas.Bool.{cases_eq, eq-eqb, ne_eqb, and_parts, and_from}
 use Rattle.std.proofs.lemmas.List.{drop_more, get_or-set_same, get_or-set_other}
-use Rattle.a95_base.specs.Lists.{EachOf, down_to_one}
-use Rattle.a95_base.proofs.Lists.{EachOf-weaker}
+use Rattle.a95_base.specs.Lists.{Every, down_to_one}
+use Rattle.a95_base.proofs.Lists.{Every-weaker}
 use Rattle.a95_base.proofs.Permuted.{each_from_one}
 use Rattle.rank_shape.specs.declared.distance.Entry.{Entry}
 use Rattle.rank_shape.specs.declared.distance.Entry.TheVariants as entry
@@ -39,7 +39,7 @@ all_left_at_first n rank = filter_all (λ loop. not (is_taken (replicate rank fa
 
 -- ---- one more loop taken
 
-filter_agree_on : {A : Type 0} (p q : A → Bool) (xs : List A) → EachOf (λ x. p x ≡ q x) xs → filter p xs ≡ filter q xs
+filter_agree_on : {A : Type 0} (p q : A → Bool) (xs : List A) → Every (λ x. p x ≡ q x) xs → filter p xs ≡ filter q xs
 filter_agree_on p q [] h = refl
 filter_agree_on p q (x ∷ xs) h =
     ap (λ b. cond b (x ∷ filter p xs) (filter p xs)) h.0 ∙ ap (λ ys. cond (q x) (x ∷ ys) ys) (filter_agree_on p q xs h.1)
@@ -53,7 +53,7 @@ filter_without p q l (suc n) at_p at_q others least most =
           let p_here : p (suc n) ≡ true = ap p same ∙ at_p in
           let q_here : q (suc n) ≡ false = ap q same ∙ at_q in
           ap (λ b. cond b (suc n ∷ filter q (down_to_one n)) (filter q (down_to_one n))) q_here
-          ∙ filter_agree_on q p (down_to_one n) (EachOf-weaker (λ x. (1 ≤ x) × (x ≤ n)) (λ x. q x ≡ p x) (λ x known. others x known.0 (λ is. omega (arith, known.1))) (down_to_one n) (each_from_one n n (omega arith)))
+          ∙ filter_agree_on q p (down_to_one n) (Every-weaker (λ x. (1 ≤ x) × (x ≤ n)) (λ x. q x ≡ p x) (λ x known. others x known.0 (λ is. omega (arith, known.1))) (down_to_one n) (each_from_one n n (omega arith)))
           ∙ sym (ap (λ b. without l (cond b (suc n ∷ filter p (down_to_one n)) (filter p (down_to_one n)))) p_here
           ∙ ap (λ b. cond b (filter p (down_to_one n)) (suc n ∷ without l (filter p (down_to_one n)))) (eq-eqb (suc n) l same))
       | inr apart ↦
@@ -136,11 +136,11 @@ asks_closed test loop taken d others before closed =
 
 -- ---- all distances are settled
 
-pub all_each : {A : Type 0} (p : A → Bool) (xs : List A) → list_all p xs ≡ true → EachOf (λ x. IsTrue (p x)) xs
+pub all_each : {A : Type 0} (p : A → Bool) (xs : List A) → list_all p xs ≡ true → Every (λ x. IsTrue (p x)) xs
 all_each p [] h = tt
 all_each p (x ∷ xs) h = let parts = and_parts (p x) (list_all p xs) h in (parts.0, all_each p xs parts.1)
 
-pub each_all : {A : Type 0} (p : A → Bool) (xs : List A) → EachOf (λ x. IsTrue (p x)) xs → list_all p xs ≡ true
+pub each_all : {A : Type 0} (p : A → Bool) (xs : List A) → Every (λ x. IsTrue (p x)) xs → list_all p xs ≡ true
 each_all p [] h = refl
 each_all p (x ∷ xs) h = and_from (p x) (list_all p xs) h.0 (each_all p xs h.1)
 

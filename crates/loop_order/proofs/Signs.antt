@@ -4,7 +4,7 @@ use Rattle.std.specs.Prelude.{filter}
 use Rattle.std.specs.List.{list_any}
 use Rattle.std.proofs.lemmas.Int.{ints}
 use Rattle.std.proofs.lemmas.Bool.{or_parts, false≢true}
-use Rattle.a95_base.specs.Lists.{EachOf}
+use Rattle.a95_base.specs.Lists.{Every}
 use Rattle.rank_shape.specs.declared.distance.Entry.{Entry}
 use Rattle.rank_shape.specs.declared.distance.Entry.TheVariants as entry
 use Rattle.loop_order.specs.declared.sign.Sign.TheVariants.{Still, Up, Down}
@@ -31,27 +31,27 @@ down_earlier (entry.Known (negsuc n)) i j s d = omega (arith, ints)
 
 -- ---- tests on the items of a list
 
-pub none_passes : {A : Type 0} (p : A → Bool) (xs : List A) → list_any p xs ≡ false → EachOf (λ x. p x ≡ false) xs
+pub none_passes : {A : Type 0} (p : A → Bool) (xs : List A) → list_any p xs ≡ false → Every (λ x. p x ≡ false) xs
 none_passes p [] h = tt
 none_passes p (x ∷ xs) h = let parts = or_parts (p x) (list_any p xs) h in (parts.0, none_passes p xs parts.1)
 
-pub some_fails : {A : Type 0} (p : A → Bool) (xs : List A) → EachOf (λ x. p x ≡ false) xs → list_any p xs ≡ false
+pub some_fails : {A : Type 0} (p : A → Bool) (xs : List A) → Every (λ x. p x ≡ false) xs → list_any p xs ≡ false
 some_fails p [] h = refl
 some_fails p (x ∷ xs) h = ap (λ b. b || list_any p xs) h.0 ∙ some_fails p xs h.1
 
-kept : {A : Type 0} (P : A → Type 0) (p : A → Bool) (x : A) (xs : List A) (b : Bool) → p x ≡ b → P x → EachOf (λ y. P y × (p y ≡ true)) (filter p xs) → EachOf (λ y. P y × (p y ≡ true)) (cond b (x ∷ filter p xs) (filter p xs))
+kept : {A : Type 0} (P : A → Type 0) (p : A → Bool) (x : A) (xs : List A) (b : Bool) → p x ≡ b → P x → Every (λ y. P y × (p y ≡ true)) (filter p xs) → Every (λ y. P y × (p y ≡ true)) (cond b (x ∷ filter p xs) (filter p xs))
 kept P p x xs true is here others = ((here, is), others)
 kept P p x xs false is here others = others
 
-unkept : {A : Type 0} (P : A → Type 0) (p : A → Bool) (x : A) (xs : List A) (b : Bool) → p x ≡ b → EachOf P (cond b (x ∷ filter p xs) (filter p xs)) → (p x ≡ true → P x) × EachOf P (filter p xs)
+unkept : {A : Type 0} (P : A → Type 0) (p : A → Bool) (x : A) (xs : List A) (b : Bool) → p x ≡ b → Every P (cond b (x ∷ filter p xs) (filter p xs)) → (p x ≡ true → P x) × Every P (filter p xs)
 unkept P p x xs true is h = (λ t. h.0, h.1)
 unkept P p x xs false is h = (λ t. absurd (false≢true (sym is ∙ t)), h)
 
 -- where each item that passes has P
-pub EachOf-from_filter : {A : Type 0} (P : A → Type 0) (p : A → Bool) (xs : List A) → EachOf P (filter p xs) → EachOf (λ x. p x ≡ true → P x) xs
-EachOf-from_filter P p [] h = tt
-EachOf-from_filter P p (x ∷ xs) h = let parts = unkept P p x xs (p x) refl h in (parts.0, EachOf-from_filter P p xs parts.1)
+pub Every-from_filter : {A : Type 0} (P : A → Type 0) (p : A → Bool) (xs : List A) → Every P (filter p xs) → Every (λ x. p x ≡ true → P x) xs
+Every-from_filter P p [] h = tt
+Every-from_filter P p (x ∷ xs) h = let parts = unkept P p x xs (p x) refl h in (parts.0, Every-from_filter P p xs parts.1)
 
-pub EachOf-filter : {A : Type 0} (P : A → Type 0) (p : A → Bool) (xs : List A) → EachOf P xs → EachOf (λ x. P x × (p x ≡ true)) (filter p xs)
-EachOf-filter P p [] h = tt
-EachOf-filter P p (x ∷ xs) h = kept P p x xs (p x) refl h.0 (EachOf-filter P p xs h.1)
+pub Every-filter : {A : Type 0} (P : A → Type 0) (p : A → Bool) (xs : List A) → Every P xs → Every (λ x. P x × (p x ≡ true)) (filter p xs)
+Every-filter P p [] h = tt
+Every-filter P p (x ∷ xs) h = kept P p x xs (p x) refl h.0 (Every-filter P p xs h.1)

@@ -1,7 +1,7 @@
 -- Which orders of loops let each read come no later than the store of the same place. A distance has an entry for each
 -- loop: how many turns of that loop lie from the turn that stores to the turn that reads, or Any where that isn't known.
 use Rattle.std.specs.Prelude.{ℕ, zero, suc, ◌-◌, pos, negsuc, Bool, true, false, not, IsTrue, List, [], ◌∷◌, map, slice_index_or}
-use Rattle.a95_base.specs.Lists.{EachOf}
+use Rattle.a95_base.specs.Lists.{Every}
 use Rattle.rank_shape.specs.Order.{Level}
 use Rattle.rank_shape.specs.declared.distance.Entry.{Entry}
 use Rattle.rank_shape.specs.declared.distance.Entry.TheVariants as entry
@@ -32,7 +32,7 @@ settles [] distance = true
 settles (level ∷ inner) distance = meets (sign_at distance level.number) level.down (settles inner distance)
 
 abbrev pub IsLegal : List Level → List (List Entry) → Type 0
-IsLegal order = EachOf (λ distance. IsTrue (settles order distance))
+IsLegal order = Every (λ distance. IsTrue (settles order distance))
 
 abbrev pub distances_of : (rank : ℕ) → List (Dist rank) → List (List Entry)
 distances_of rank = map (λ dist. dist.entries)

@@ -1,6 +1,6 @@
 ghost use Rattle.std.specs.Prelude.{◌≡◌, ◌↔◌, IsTrue};
 ghost use Rattle.std.specs.List.{list_all};
-ghost use Rattle.a95_base.specs.Lists.{EachOf, AllLater};
+ghost use Rattle.a95_base.specs.Lists.{Every, Pairwise};
 ghost use Rattle.rank_shape.specs.Walk.{tour};
 ghost use Rattle.loop_order.specs.Apart.{IsApart};
 ghost use Rattle.loop_order.specs.Legal.{IsLegal, distances_of, settles, turned};
@@ -26,7 +26,7 @@ pub fn legal<const R: usize>(order: &Order<R>, dists: &[Dist<R>]) -> bool
 /// than the one that stores.
 pub fn reads_come_first<const R: usize>(shape: &Shape<R>, order: &Order<R>, dists: &[Dist<R>])
     requires { IsLegal order.now (distances_of R dists.now) }
-    ensures { EachOf (λ distance. AllLater (λ stores reads. ¬ IsApart distance stores reads) (tour order.now shape.now)) (distances_of R dists.now) }
+    ensures { Every (λ distance. Pairwise (λ stores reads. ¬ IsApart distance stores reads) (tour order.now shape.now)) (distances_of R dists.now) }
 {
     order.known();
 }
@@ -35,7 +35,7 @@ pub fn reads_come_first<const R: usize>(shape: &Shape<R>, order: &Order<R>, dist
 /// the other way, would be legal, the turn that reads comes no earlier in the walk than the one that stores.
 pub fn stores_come_first<const R: usize>(shape: &Shape<R>, order: &Order<R>, dists: &[Dist<R>])
     requires { IsLegal (turned order.now) (distances_of R dists.now) }
-    ensures { EachOf (λ distance. AllLater (λ reads stores. ¬ IsApart distance stores reads) (tour order.now shape.now)) (distances_of R dists.now) }
+    ensures { Every (λ distance. Pairwise (λ reads stores. ¬ IsApart distance stores reads) (tour order.now shape.now)) (distances_of R dists.now) }
 {
     order.known();
 }

@@ -4,7 +4,7 @@ use Rattle.loop_tree.specs.declared.tree.Function.{Function}
 use Rattle.loop_tree.specs.State.{Next, Goes, Ends, End}
 use Rattle.loop_tree.specs.Machine.{step}
 use Rattle.loop_tree.specs.Run.{Trail, trail, count_turn, after, one_step, walk, Leads, begins_turn, Outcome, Finished, Going, FinishesAt, GoesOnAt, Runs}
-use Rattle.loop_tree.specs.RunLaws.{IsFront, OneOutcome, EndStays, OutputGrows, TurnsAdd}
+use Rattle.loop_tree.specs.RunLaws.{IsPrefix, OneOutcome, EndStays, OutputGrows, TurnsAdd}
 use Rattle.loop_tree.proofs.Runs.{joins, linear, grows, last, not_past, Grows}
 
 -- ---- one outcome
@@ -60,10 +60,10 @@ end_stays functions start limit more told how h f =
     record { last = f.last; leads = f.leads; within = omega (arith, f.within); wrote = f.wrote; ends = f.ends }
 
 -- the place where a run with more turns stands lies behind that of one with fewer
-front_by : (a b : Trail) (told other : List ℕ) → Grows a b → a.told ≡ told → b.told ≡ other → IsFront told other
+front_by : (a b : Trail) (told other : List ℕ) → Grows a b → a.told ≡ told → b.told ≡ other → IsPrefix told other
 front_by a b told other g e f = record { more = g.more; is = sym f ∙ (g.told ∙ ap (λ t. t ++ g.more) e) }
 
-front_of_same : (a b : Trail) (told other : List ℕ) → b ≡ a → a.told ≡ told → b.told ≡ other → IsFront told other
+front_of_same : (a b : Trail) (told other : List ℕ) → b ≡ a → a.told ≡ told → b.told ≡ other → IsPrefix told other
 front_of_same a b told other same e f = record { more = []; is = sym f ∙ (ap (λ (t : Trail). t.told) same ∙ (e ∙ sym (append-nil told))) }
 
 pub output_grows : OutputGrows

@@ -9,7 +9,7 @@ use Rattle.loop_tree.specs.Machine.{step, exits}
 use Rattle.loop_tree.specs.Run.{Trail, trail, Leads, begins_turn, Outcome, Finished, GoesOnAt, Runs}
 
 -- the first list is the front of the second
-pub record IsFront (front whole : List ℕ) : Type 0 where
+pub record IsPrefix (front whole : List ℕ) : Type 0 where
   pub more : List ℕ
   pub is : whole ≡ front ++ more
 
@@ -35,7 +35,7 @@ EndStays = (functions : List Function) (start : Trail) (limit more : ℕ) (told 
 -- what is written only grows
 abbrev pub OutputGrows : Type 0
 OutputGrows = (functions : List Function) (start : Trail) (limit more : ℕ) (told other : List ℕ) (outcome second : Outcome) →
-    limit ≤ more → Runs functions start limit told outcome → Runs functions start more other second → IsFront told other
+    limit ≤ more → Runs functions start limit told outcome → Runs functions start more other second → IsPrefix told other
 
 -- a run that waits at its limit and is given more turns is one run with all of them
 abbrev pub TurnsAdd : Type 0

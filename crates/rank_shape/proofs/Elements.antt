@@ -4,15 +4,15 @@ use Rattle.std.specs.List.{flat_map}
 use Rattle.std.proofs.Math.Nat.{mul_assoc, mul_comm, add_comm}
 use Rattle.std.proofs.lemmas.List.{get_or-set_same, length-set, take_all, map-append, append-nil, length-map}
 use Rattle.std.proofs.lemmas.List.Concat.{flat_map-append}
-use Rattle.a95_base.specs.Lists.{EachOf, Has, count_to}
-use Rattle.a95_base.proofs.Lists.{EachOf-weaker, EachOf-both, EachOf-all, map_agree, flat_map_agree}
+use Rattle.a95_base.specs.Lists.{Every, Member, count_to}
+use Rattle.a95_base.proofs.Lists.{Every-weaker, Every-both, Every-all, map_agree, flat_map_agree}
 use Rattle.rank_shape.specs.Shape.{IsPlace, size_of, number_of, place_at, places_of}
 use Rattle.rank_shape.specs.Order.{Level, IsOrder, loops_of, element_order_of}
 use Rattle.rank_shape.specs.Walk.{tour_from, tour}
 use Rattle.rank_shape.proofs.Numbers.{place_at-number_of}
 use Rattle.rank_shape.proofs.Walks.{tour_keeps, tour_long, tour_within}
 use Rattle.rank_shape.proofs.Orders.{element_is_order}
-use Rattle.a95_base.proofs.Permuted.{Has-down_to_one, permuted_back, Permuted-Has}
+use Rattle.a95_base.proofs.Permuted.{Member-down_to_one, permuted_back, Permuted-Member}
 
 size_of_take : (extents : List ℕ) (n : ℕ) → n < length extents → size_of (take (suc n) extents) ≡ size_of (take n extents) * get_or extents n 0
 size_of_take [] n below = absurd (omega arith)
@@ -59,7 +59,7 @@ map_pieces : {A B C : Type 0} (f : A → List B) (g : B → C) (xs : List A) →
 map_pieces f g [] = refl
 map_pieces f g (x ∷ xs) = map-append g (f x) (flat_map f xs) ∙ ap (λ ys. map g (f x) ++ ys) (map_pieces f g xs)
 
-element_loops_below : (m n : ℕ) → m ≤ n → EachOf (λ level. level.number - 1 ≢ n) (element_order_of m)
+element_loops_below : (m n : ℕ) → m ≤ n → Every (λ level. level.number - 1 ≢ n) (element_order_of m)
 element_loops_below zero n below = tt
 element_loops_below (suc m) n below = (omega arith, element_loops_below m n (omega arith))
 
@@ -69,12 +69,12 @@ piece_numbers n extents place i below long inner =
     let start : List ℕ = set place n i in
     let piece : List (List ℕ) = tour_from (element_order_of n) extents start in
     map_agree (λ p. number_of (take (suc n) extents) (take (suc n) p)) (λ p. number_of (take n extents) (take n p) + i * size) piece
-    (EachOf-weaker (λ p. (get_or p n 0 ≡ get_or start n 0) × (length p ≡ length start)) (λ p. number_of (take (suc n) extents) (take (suc n) p) ≡ number_of (take n extents) (take n p) + i * size)
+    (Every-weaker (λ p. (get_or p n 0 ≡ get_or start n 0) × (length p ≡ length start)) (λ p. number_of (take (suc n) extents) (take (suc n) p) ≡ number_of (take n extents) (take n p) + i * size)
     (λ p known.
     number_of_take extents p n below (known.1 ∙ length-set place n i ∙ long)
     ∙ ap (λ x. number_of (take n extents) (take n p) + x * size) (known.0 ∙ get_or-set_same place n i 0 (omega arith)))
     piece
-    (EachOf-both (λ p. get_or p n 0 ≡ get_or start n 0) (λ p. length p ≡ length start) piece
+    (Every-both (λ p. get_or p n 0 ≡ get_or start n 0) (λ p. length p ≡ length start) piece
     (tour_keeps (element_order_of n) extents start n (element_loops_below n n (omega arith))) (tour_long (element_order_of n) extents start)))
     ∙ sym (map_twice (λ p. number_of (take n extents) (take n p)) (λ x. x + i * size) piece)
     ∙ ap (map (λ x. x + i * size)) inner
@@ -88,7 +88,7 @@ element_numbers (suc n) extents place below long =
     ap (λ k. map (λ p. number_of (take (suc n) extents) (take (suc n) p)) (flat_map (λ i. tour_from (element_order_of n) extents (set place k i)) (count_to (get_or extents k 0)))) dim
     ∙ map_pieces (λ i. tour_from (element_order_of n) extents (set place n i)) (λ p. number_of (take (suc n) extents) (take (suc n) p)) (count_to (get_or extents n 0))
     ∙ flat_map_agree (λ i. map (λ p. number_of (take (suc n) extents) (take (suc n) p)) (tour_from (element_order_of n) extents (set place n i))) (λ i. map (λ x. x + i * size) (count_to size)) (count_to (get_or extents n 0))
-    (EachOf-all (λ i. map (λ p. number_of (take (suc n) extents) (take (suc n) p)) (tour_from (element_order_of n) extents (set place n i)) ≡ map (λ x. x + i * size) (count_to size))
+    (Every-all (λ i. map (λ p. number_of (take (suc n) extents) (take (suc n) p)) (tour_from (element_order_of n) extents (set place n i)) ≡ map (λ x. x + i * size) (count_to size))
     (λ i. piece_numbers n extents place i below long (element_numbers n extents (set place n i) (omega arith) (length-set place n i ∙ long))) (count_to (get_or extents n 0)))
     ∙ count_blocks size (get_or extents n 0)
     ∙ ap count_to (sym (size_of_take extents n below))
@@ -98,10 +98,10 @@ map_same [] = refl
 map_same (x ∷ xs) = ap (λ ys. x ∷ ys) (map_same xs)
 
 -- an order has a loop for each dimension
-pub order_covers : (rank : ℕ) (order : List Level) (k : ℕ) → IsOrder rank order → k < rank → Has (loops_of order) (suc k)
-order_covers rank order k holds below = Permuted-Has (suc k) (permuted_back holds) (Has-down_to_one rank (suc k) (omega arith) below)
+pub order_covers : (rank : ℕ) (order : List Level) (k : ℕ) → IsOrder rank order → k < rank → Member (loops_of order) (suc k)
+order_covers rank order k holds below = Permuted-Member (suc k) (permuted_back holds) (Member-down_to_one rank (suc k) (omega arith) below)
 
-pub order_within : (rank : ℕ) (extents : List ℕ) (order : List Level) → length extents ≡ rank → IsOrder rank order → EachOf (IsPlace extents) (tour order extents)
+pub order_within : (rank : ℕ) (extents : List ℕ) (order : List Level) → length extents ≡ rank → IsOrder rank order → Every (IsPlace extents) (tour order extents)
 order_within rank extents order long holds =
     tour_within order extents (map (λ extent. 0) extents) (length-map extents (λ extent. 0)) (λ k below. inl (order_covers rank order k holds (omega arith)))
 
@@ -113,14 +113,14 @@ element_tour rank extents long =
     let start_long : length start ≡ length extents = length-map extents (λ extent. 0) in
     let numbers : map (number_of extents) walk ≡ count_to (size_of extents) =
     map_agree (number_of extents) (λ p. number_of (take rank extents) (take rank p)) walk
-    (EachOf-weaker (λ p. length p ≡ length start) (λ p. number_of extents p ≡ number_of (take rank extents) (take rank p))
+    (Every-weaker (λ p. length p ≡ length start) (λ p. number_of extents p ≡ number_of (take rank extents) (take rank p))
     (λ p is. sym (ap (λ es. number_of es (take rank p)) (take_all rank extents (omega arith)) ∙ ap (number_of extents) (take_all rank p (omega arith))))
     walk (tour_long (element_order_of rank) extents start))
     ∙ element_numbers rank extents start (omega arith) start_long
     ∙ ap (λ es. count_to (size_of es)) (take_all rank extents (omega arith)) in
     sym (map_same walk)
     ∙ map_agree (λ p. p) (λ p. place_at extents (number_of extents p)) walk
-    (EachOf-weaker (IsPlace extents) (λ p. p ≡ place_at extents (number_of extents p)) (λ p inside. sym (place_at-number_of extents p inside)) walk
+    (Every-weaker (IsPlace extents) (λ p. p ≡ place_at extents (number_of extents p)) (λ p inside. sym (place_at-number_of extents p inside)) walk
     (order_within rank extents (element_order_of rank) long (element_is_order rank)))
     ∙ sym (map_twice (number_of extents) (place_at extents) walk)
     ∙ ap (map (place_at extents)) numbers

@@ -1,9 +1,9 @@
 -- Orders as two lists of fields, and what each order's list of levels has.
 use Rattle.std.proofs.Common.{◌≡◌, ℕ, zero, suc, ◌+◌, ◌-◌, ◌<◌, ◌≤◌, Bool, true, false, eqb, List, [], ◌∷◌, ◌++◌, length, get_or, set, take, replicate, refl, sym, ap, ◌∙◌, subst, inl, inr, arith, append_assoc}
-use Rattle.a95_base.specs.Lists.{EachOf, Has, Permuted, down_to_one}
-use Rattle.a95_base.proofs.Permuted.{pigeonhole, length-down_to_one, each_from_one, permuted_back, permuted_equal, Permuted-EachOf}
+use Rattle.a95_base.specs.Lists.{Every, Member, Permuted, down_to_one}
+use Rattle.a95_base.proofs.Permuted.{pigeonhole, length-down_to_one, each_from_one, permuted_back, permuted_equal, Permuted-Every}
 use Rattle.std.proofs.lemmas.List.{length-replicate, take_more_set, take_all, append-nil}
-use Rattle.a95_base.proofs.Lists.{each_at, each_has, each_from_places, Has-get_or}
+use Rattle.a95_base.proofs.Lists.{each_at, each_has, each_from_places, Member-get_or}
 use Rattle.std.specs.Prelude.{IsTrue, ◌↔◌}
 use Rattle.std.specs.List.{IsAnyAnswer}
 use Rattle.std.proofs.lemmas.Bool.{cases_lt, eqb-true, eq-eqb, both_ways, false≢true}
@@ -12,7 +12,7 @@ use Rattle.rank_shape.specs.Order.{Level, levels, level_at, loops_of, downs_of, 
 use Rattle.rank_shape.specs.Fields.{OrderFields, loops_of-levels, downs_of-levels}
 
 -- loops that name each number from 1 to the rank make an order
-pub order_from : (rank : ℕ) (loops : List ℕ) (downs : List Bool) → IsRank rank → length loops ≡ rank → length downs ≡ rank → ((k : ℕ) → 1 ≤ k → k ≤ rank → Has loops k) → OrderFields rank loops downs
+pub order_from : (rank : ℕ) (loops : List ℕ) (downs : List Bool) → IsRank rank → length loops ≡ rank → length downs ≡ rank → ((k : ℕ) → 1 ≤ k → k ≤ rank → Member loops k) → OrderFields rank loops downs
 order_from rank loops downs ranked long downs_long named = record {
   ranked = ranked;
   loops_long = long;
@@ -33,13 +33,13 @@ level_down (n ∷ loops) (d ∷ downs) zero e below = refl
 level_down (n ∷ loops) (d ∷ downs) (suc k) e below = level_down loops downs k (omega arith) (omega arith)
 
 -- the loops of an order are numbered from 1 to the rank
-pub loops_in_range : (rank : ℕ) (order : List Level) → IsOrder rank order → EachOf (λ n. (1 ≤ n) × (n ≤ rank)) (loops_of order)
-loops_in_range rank order holds = Permuted-EachOf (λ n. (1 ≤ n) × (n ≤ rank)) (permuted_back holds) (each_from_one rank rank (omega arith))
+pub loops_in_range : (rank : ℕ) (order : List Level) → IsOrder rank order → Every (λ n. (1 ≤ n) × (n ≤ rank)) (loops_of order)
+loops_in_range rank order holds = Permuted-Every (λ n. (1 ≤ n) × (n ≤ rank)) (permuted_back holds) (each_from_one rank rank (omega arith))
 
 pub field_in_range : (rank : ℕ) (loops : List ℕ) (downs : List Bool) (k : ℕ) → OrderFields rank loops downs → k < rank → (1 ≤ get_or loops k 0) × (get_or loops k 0 ≤ rank)
 field_in_range rank loops downs k fields below =
     each_at (λ n. (1 ≤ n) × (n ≤ rank)) loops k 0
-    (let P : List ℕ → Type 0 = λ ns. EachOf (λ n. (1 ≤ n) × (n ≤ rank)) ns in subst P (loops_of-levels loops downs (omega arith)) (loops_in_range rank (levels loops downs) fields.order))
+    (let P : List ℕ → Type 0 = λ ns. Every (λ n. (1 ≤ n) × (n ≤ rank)) ns in subst P (loops_of-levels loops downs (omega arith)) (loops_in_range rank (levels loops downs) fields.order))
     (omega arith)
 
 -- ---- array element order
@@ -66,17 +66,17 @@ element_fields rank loops ranked is = record {
 -- ---- the steps of the code
 
 -- what a search for a number finds
-pub has_answer : (xs : List ℕ) (n : ℕ) (r : Bool) → IsAnyAnswer (λ y b. eqb y n ≡ b) xs r → IsTrue r ↔ Has xs n
+pub has_answer : (xs : List ℕ) (n : ℕ) (r : Bool) → IsAnyAnswer (λ y b. eqb y n ≡ b) xs r → IsTrue r ↔ Member xs n
 has_answer xs n true found =
-    (λ t. let P : ℕ → Type 0 = λ y. Has xs y in subst P (eqb-true (get_or xs found.0 0) n (found.2 0)) (Has-get_or xs found.0 0 found.1), λ h. refl)
+    (λ t. let P : ℕ → Type 0 = λ y. Member xs y in subst P (eqb-true (get_or xs found.0 0) n (found.2 0)) (Member-get_or xs found.0 0 found.1), λ h. refl)
 has_answer xs n false none =
     (λ t. absurd (false≢true t), λ h. absurd (both_ways (eqb n n) (each_has (λ y. eqb y n ≡ false) xs n (each_from_places (λ y. eqb y n ≡ false) xs (λ k d below. none k d (omega arith) below)) h) (eq-eqb n n refl)))
 
 -- one more number that is named
-pub one_more_named : (loops : List ℕ) (k : ℕ) → ((j : ℕ) → 1 ≤ j → j ≤ k → Has loops j) → Has loops (k + 1) → (j : ℕ) → 1 ≤ j → j ≤ k + 1 → Has loops j
+pub one_more_named : (loops : List ℕ) (k : ℕ) → ((j : ℕ) → 1 ≤ j → j ≤ k → Member loops j) → Member loops (k + 1) → (j : ℕ) → 1 ≤ j → j ≤ k + 1 → Member loops j
 one_more_named loops k before here j least most =
     elim (cases_lt k j) [
-      | inl above ↦ let P : ℕ → Type 0 = λ n. Has loops n in subst P (omega arith) here
+      | inl above ↦ let P : ℕ → Type 0 = λ n. Member loops n in subst P (omega arith) here
       | inr below ↦ before j least below
     ]
 

@@ -3,10 +3,10 @@ use Rattle.std.proofs.Common.{◌≡◌, ◌≢◌, ℕ, ◌-◌, ◌<◌, Bool,
 use Rattle.std.specs.List.{flat_map}
 use Rattle.std.proofs.lemmas.Bool.{cases_eq}
 use Rattle.std.proofs.lemmas.List.{set_comm, length-map}
-use Rattle.a95_base.specs.Lists.{AllLater, Has, Permuted, count_to, down_to_one}
+use Rattle.a95_base.specs.Lists.{Pairwise, Member, Permuted, count_to, down_to_one}
 use Rattle.a95_base.specs.Lists.Permuted.{none, skip, swap, join}
-use Rattle.a95_base.proofs.Lists.{each_below, EachOf-all, flat_map_agree, Has-map, Has-count_to, count_to_rises, AllLater-map, AllLater-weaker_on, length-count_to}
-use Rattle.a95_base.proofs.Permuted.{Permuted-reverse, permuted_same, permuted_equal, permuted_back, Permuted-Has, Permuted-AllLater, Permuted-length, Permuted-flat_map, Permuted-pieces, loops_turned}
+use Rattle.a95_base.proofs.Lists.{each_below, Every-all, flat_map_agree, Member-map, Member-count_to, count_to_rises, Pairwise-map, Pairwise-weaker_on, length-count_to}
+use Rattle.a95_base.proofs.Permuted.{Permuted-reverse, permuted_same, permuted_equal, permuted_back, Permuted-Member, Permuted-Pairwise, Permuted-length, Permuted-flat_map, Permuted-pieces, loops_turned}
 use Rattle.rank_shape.specs.Shape.{size_of, number_of, place_at, places_of}
 use Rattle.rank_shape.specs.Order.{Level, IsOrder, loops_of, element_order_of}
 use Rattle.rank_shape.specs.Walk.{turns_of, tour_from, tour, IsWhole}
@@ -46,10 +46,10 @@ two_turned numbers extents place a b =
           join (loops_turned (λ i j. tour_up numbers extents (set (set place a i) b j)) (count_to (get_or extents a 0)) (count_to (get_or extents b 0)))
           (permuted_equal _ (two_loops numbers extents place b a)
           (flat_map_agree (λ j. flat_map (λ i. tour_up numbers extents (set (set place a i) b j)) (count_to (get_or extents a 0))) (λ j. flat_map (λ i. tour_up numbers extents (set (set place b j) a i)) (count_to (get_or extents a 0))) (count_to (get_or extents b 0))
-          (EachOf-all (λ j. flat_map (λ i. tour_up numbers extents (set (set place a i) b j)) (count_to (get_or extents a 0)) ≡ flat_map (λ i. tour_up numbers extents (set (set place b j) a i)) (count_to (get_or extents a 0)))
+          (Every-all (λ j. flat_map (λ i. tour_up numbers extents (set (set place a i) b j)) (count_to (get_or extents a 0)) ≡ flat_map (λ i. tour_up numbers extents (set (set place b j) a i)) (count_to (get_or extents a 0)))
           (λ j.
           flat_map_agree (λ i. tour_up numbers extents (set (set place a i) b j)) (λ i. tour_up numbers extents (set (set place b j) a i)) (count_to (get_or extents a 0))
-          (EachOf-all (λ i. tour_up numbers extents (set (set place a i) b j) ≡ tour_up numbers extents (set (set place b j) a i)) (λ i. ap (tour_up numbers extents) (set_comm place a b i j apart)) (count_to (get_or extents a 0))))
+          (Every-all (λ i. tour_up numbers extents (set (set place a i) b j) ≡ tour_up numbers extents (set (set place b j) a i)) (λ i. ap (tour_up numbers extents) (set_comm place a b i j apart)) (count_to (get_or extents a 0))))
           (count_to (get_or extents b 0)))))
     ]
 
@@ -70,10 +70,10 @@ order_reordered rank extents order long holds =
     (join (permuted_back (forwards (element_order_of rank) extents start))
     (permuted_equal (tour (element_order_of rank) extents) (places_of extents) (element_tour rank extents long)))))
 
-places_once : (extents : List ℕ) → AllLater (λ place later. place ≢ later) (places_of extents)
+places_once : (extents : List ℕ) → Pairwise (λ place later. place ≢ later) (places_of extents)
 places_once extents =
-    AllLater-map (λ place later. place ≢ later) (place_at extents) (count_to (size_of extents))
-    (AllLater-weaker_on (λ n. n < size_of extents) (λ j k. j < k) (λ j k. place_at extents j ≢ place_at extents k)
+    Pairwise-map (λ place later. place ≢ later) (place_at extents) (count_to (size_of extents))
+    (Pairwise-weaker_on (λ n. n < size_of extents) (λ j k. j < k) (λ j k. place_at extents j ≢ place_at extents k)
     (λ j k j_in k_in below same.
     let numbers : j ≡ k = sym (number_of-place_at extents j j_in) ∙ ap (number_of extents) same ∙ number_of-place_at extents k k_in in
     omega arith)
@@ -86,10 +86,10 @@ order_whole rank extents order long holds =
       within = order_within rank extents order long holds;
       every =
           λ place inside.
-          Permuted-Has place (permuted_back reordered)
-          (let P : List ℕ → Type 0 = λ p. Has (places_of extents) p in
-          subst P (place_at-number_of extents place inside) (Has-map (place_at extents) (count_to (size_of extents)) (number_of extents place) (Has-count_to (size_of extents) (number_of extents place) (number_below extents place inside))));
-      once = Permuted-AllLater (λ place later. place ≢ later) (λ a b apart same. apart (sym same)) (permuted_back reordered) (places_once extents);
+          Permuted-Member place (permuted_back reordered)
+          (let P : List ℕ → Type 0 = λ p. Member (places_of extents) p in
+          subst P (place_at-number_of extents place inside) (Member-map (place_at extents) (count_to (size_of extents)) (number_of extents place) (Member-count_to (size_of extents) (number_of extents place) (number_below extents place inside))));
+      once = Permuted-Pairwise (λ place later. place ≢ later) (λ a b apart same. apart (sym same)) (permuted_back reordered) (places_once extents);
       size = Permuted-length reordered ∙ length-map (count_to (size_of extents)) (place_at extents) ∙ length-count_to (size_of extents);
       reordered = reordered;
     }

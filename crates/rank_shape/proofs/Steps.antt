@@ -4,7 +4,7 @@ use Rattle.std.proofs.Math.Nat.{mul_comm}
 use Rattle.std.proofs.lemmas.Nat.{mod_below, div_below, div-mul-add, mul-le}
 use Rattle.std.proofs.lemmas.Int.{ints}
 use Rattle.std.proofs.lemmas.List.{drop_more, drop_all, map-set, length-map}
-use Rattle.a95_base.proofs.Lists.{EachOf-set}
+use Rattle.a95_base.proofs.Lists.{Every-set}
 use Rattle.a95_base.proofs.Permuted.{Permuted-length, length-down_to_one}
 use Rattle.rank_shape.specs.Shape.{AreNatural, naturals, size_of}
 use Rattle.rank_shape.specs.Order.{Level, IsOrder, level_at}
@@ -89,7 +89,7 @@ natural_pos : (n : ℕ) → pos 0 ≤ℤ pos n
 natural_pos n = omega (arith, ints)
 
 pub natural_set : (at : List ℤ) (k n : ℕ) → AreNatural at → AreNatural (set at k (pos n))
-natural_set at k n natural = EachOf-set (λ z. pos 0 ≤ℤ z) at k (pos n) (natural_pos n) natural
+natural_set at k n natural = Every-set (λ z. pos 0 ≤ℤ z) at k (pos n) (natural_pos n) natural
 
 pub start_natural : (n : ℕ) → AreNatural (replicate n (pos 0))
 start_natural zero = tt

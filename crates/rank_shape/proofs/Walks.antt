@@ -4,9 +4,9 @@ use Rattle.std.specs.List.{flat_map}
 use Rattle.std.proofs.lemmas.Nat.{mod_below, div_below, div-add-mod'}
 use Rattle.std.proofs.lemmas.Bool.{cases_eq}
 use Rattle.std.proofs.lemmas.List.{length-reverse, get_or-reverse, get_or_append_left, get_or-append-add, get_or-set_same, get_or-set_other, length-set}
-use Rattle.a95_base.specs.Lists.{EachOf, Has, count_to}
-use Rattle.a95_base.proofs.Lists.{length-count_to, get_or-count_to, each_below, EachOf-weaker, EachOf-flat_map, EachOf-all}
-use Rattle.a95_base.proofs.Permuted.{Permuted-reverse, permuted_back, Permuted-EachOf}
+use Rattle.a95_base.specs.Lists.{Every, Member, count_to}
+use Rattle.a95_base.proofs.Lists.{length-count_to, get_or-count_to, each_below, Every-weaker, Every-flat_map, Every-all}
+use Rattle.a95_base.proofs.Permuted.{Permuted-reverse, permuted_back, Permuted-Every}
 use Rattle.rank_shape.specs.Shape.{IsPlace}
 use Rattle.rank_shape.specs.Order.{Level, loops_of}
 use Rattle.rank_shape.specs.Walk.{turns_of, tour_from}
@@ -23,9 +23,9 @@ get_or-turns_of true extent k d below =
     ∙ ap (λ n. get_or (count_to extent) (n - 1 - k) d) (length-count_to extent)
     ∙ get_or-count_to extent (extent - 1 - k) d (omega arith)
 
-pub turns_below : (down : Bool) (extent : ℕ) → EachOf (λ i. i < extent) (turns_of down extent)
+pub turns_below : (down : Bool) (extent : ℕ) → Every (λ i. i < extent) (turns_of down extent)
 turns_below false extent = each_below extent
-turns_below true extent = Permuted-EachOf (λ i. i < extent) (permuted_back (Permuted-reverse (count_to extent))) (each_below extent)
+turns_below true extent = Permuted-Every (λ i. i < extent) (permuted_back (Permuted-reverse (count_to extent))) (each_below extent)
 
 -- ---- pieces of one length
 
@@ -74,25 +74,25 @@ tour_turn (level ∷ inner) extents place turn d below =
 -- ---- what stays, and what is in range
 
 -- a dimension that no loop has keeps its subscript
-pub tour_keeps : (order : List Level) (extents place : List ℕ) (k : ℕ) → EachOf (λ level. level.number - 1 ≢ k) order → EachOf (λ p. get_or p k 0 ≡ get_or place k 0) (tour_from order extents place)
+pub tour_keeps : (order : List Level) (extents place : List ℕ) (k : ℕ) → Every (λ level. level.number - 1 ≢ k) order → Every (λ p. get_or p k 0 ≡ get_or place k 0) (tour_from order extents place)
 tour_keeps [] extents place k apart = (refl, tt)
 tour_keeps (level ∷ inner) extents place k apart =
-    EachOf-flat_map (λ p. get_or p k 0 ≡ get_or place k 0) (λ i. tour_from inner extents (set place (level.number - 1) i)) (turns_of level.down (get_or extents (level.number - 1) 0))
-    (EachOf-all (λ i. EachOf (λ p. get_or p k 0 ≡ get_or place k 0) (tour_from inner extents (set place (level.number - 1) i)))
+    Every-flat_map (λ p. get_or p k 0 ≡ get_or place k 0) (λ i. tour_from inner extents (set place (level.number - 1) i)) (turns_of level.down (get_or extents (level.number - 1) 0))
+    (Every-all (λ i. Every (λ p. get_or p k 0 ≡ get_or place k 0) (tour_from inner extents (set place (level.number - 1) i)))
     (λ i.
-    EachOf-weaker (λ p. get_or p k 0 ≡ get_or (set place (level.number - 1) i) k 0) (λ p. get_or p k 0 ≡ get_or place k 0)
+    Every-weaker (λ p. get_or p k 0 ≡ get_or (set place (level.number - 1) i) k 0) (λ p. get_or p k 0 ≡ get_or place k 0)
     (λ p is. is ∙ get_or-set_other place (level.number - 1) k i 0 (λ same. apart.0 (sym same)))
     (tour_from inner extents (set place (level.number - 1) i))
     (tour_keeps inner extents (set place (level.number - 1) i) k apart.1))
     (turns_of level.down (get_or extents (level.number - 1) 0)))
 
-pub tour_long : (order : List Level) (extents place : List ℕ) → EachOf (λ p. length p ≡ length place) (tour_from order extents place)
+pub tour_long : (order : List Level) (extents place : List ℕ) → Every (λ p. length p ≡ length place) (tour_from order extents place)
 tour_long [] extents place = (refl, tt)
 tour_long (level ∷ inner) extents place =
-    EachOf-flat_map (λ p. length p ≡ length place) (λ i. tour_from inner extents (set place (level.number - 1) i)) (turns_of level.down (get_or extents (level.number - 1) 0))
-    (EachOf-all (λ i. EachOf (λ p. length p ≡ length place) (tour_from inner extents (set place (level.number - 1) i)))
+    Every-flat_map (λ p. length p ≡ length place) (λ i. tour_from inner extents (set place (level.number - 1) i)) (turns_of level.down (get_or extents (level.number - 1) 0))
+    (Every-all (λ i. Every (λ p. length p ≡ length place) (tour_from inner extents (set place (level.number - 1) i)))
     (λ i.
-    EachOf-weaker (λ p. length p ≡ length (set place (level.number - 1) i)) (λ p. length p ≡ length place)
+    Every-weaker (λ p. length p ≡ length (set place (level.number - 1) i)) (λ p. length p ≡ length place)
     (λ p is. is ∙ length-set place (level.number - 1) i)
     (tour_from inner extents (set place (level.number - 1) i))
     (tour_long inner extents (set place (level.number - 1) i)))
@@ -110,7 +110,7 @@ set_here level extents place k i below inside dim =
     let Q : ℕ → Type 0 = λ n. i < get_or extents n 0 in
     subst P (sym (ap (λ n. get_or (set place n i) k 0) dim ∙ get_or-set_same place k i 0 below)) (subst Q dim inside)
 
-one_more_covered : (level : Level) (inner : List Level) (extents place : List ℕ) (k i : ℕ) → length place ≡ length extents → k < length extents → i < get_or extents (level.number - 1) 0 → Has (loops_of (level ∷ inner)) (suc k) ⊎ (get_or place k 0 < get_or extents k 0) → Has (loops_of inner) (suc k) ⊎ (get_or (set place (level.number - 1) i) k 0 < get_or extents k 0)
+one_more_covered : (level : Level) (inner : List Level) (extents place : List ℕ) (k i : ℕ) → length place ≡ length extents → k < length extents → i < get_or extents (level.number - 1) 0 → Member (loops_of (level ∷ inner)) (suc k) ⊎ (get_or place k 0 < get_or extents k 0) → Member (loops_of inner) (suc k) ⊎ (get_or (set place (level.number - 1) i) k 0 < get_or extents k 0)
 one_more_covered level inner extents place k i long below inside (inl (inr later)) = inl later
 one_more_covered level inner extents place k i long below inside (inl (inl here)) =
     let dim : level.number - 1 ≡ k = omega arith in inr (set_here level extents place k i (omega arith) inside dim)
@@ -121,12 +121,12 @@ one_more_covered level inner extents place k i long below inside (inr kept) =
     ]
 
 -- where each dimension has a loop or a subscript in range, each place is one of the shape
-pub tour_within : (order : List Level) (extents place : List ℕ) → length place ≡ length extents → ((k : ℕ) → k < length extents → Has (loops_of order) (suc k) ⊎ (get_or place k 0 < get_or extents k 0)) → EachOf (IsPlace extents) (tour_from order extents place)
+pub tour_within : (order : List Level) (extents place : List ℕ) → length place ≡ length extents → ((k : ℕ) → k < length extents → Member (loops_of order) (suc k) ⊎ (get_or place k 0 < get_or extents k 0)) → Every (IsPlace extents) (tour_from order extents place)
 tour_within [] extents place long covered =
     (place_from_each extents place long (λ k below. elim (covered k below) [ inl h ↦ absurd h | inr inside ↦ inside ]), tt)
 tour_within (level ∷ inner) extents place long covered =
     let dim : ℕ = level.number - 1 in
-    EachOf-flat_map (IsPlace extents) (λ i. tour_from inner extents (set place dim i)) (turns_of level.down (get_or extents dim 0))
-    (EachOf-weaker (λ i. i < get_or extents dim 0) (λ i. EachOf (IsPlace extents) (tour_from inner extents (set place dim i)))
+    Every-flat_map (IsPlace extents) (λ i. tour_from inner extents (set place dim i)) (turns_of level.down (get_or extents dim 0))
+    (Every-weaker (λ i. i < get_or extents dim 0) (λ i. Every (IsPlace extents) (tour_from inner extents (set place dim i)))
     (λ i inside. tour_within inner extents (set place dim i) (length-set place dim i ∙ long) (λ k below. one_more_covered level inner extents place k i long below inside (covered k below)))
     (turns_of level.down (get_or extents dim 0)) (turns_below level.down (get_or extents dim 0)))

@@ -1,7 +1,7 @@
 -- Shapes and places, for every rank. A list of extents or of subscripts has the first dimension first, whose subscript
 -- varies fastest in array element order. Places are counted from 0.
 use Rattle.std.specs.Prelude.{◌≡◌, ℕ, ℤ, pos, ◌+◌, ◌*◌, ◌/◌, ◌%◌, ◌^◌, ◌<◌, ◌≤◌, ◌≤ℤ◌, List, [], ◌∷◌, length, map, unsigned_abs}
-use Rattle.a95_base.specs.Lists.{EachOf, count_to}
+use Rattle.a95_base.specs.Lists.{Every, count_to}
 
 -- the ranks that an array may have
 pub record IsRank (rank : ℕ) : Type 0 where
@@ -9,7 +9,7 @@ pub record IsRank (rank : ℕ) : Type 0 where
   pub most : rank ≤ 7
 
 abbrev pub AreNatural : List ℤ → Type 0
-AreNatural = EachOf (λ z. pos 0 ≤ℤ z)
+AreNatural = Every (λ z. pos 0 ≤ℤ z)
 
 -- signed numbers, none of them negative, as natural ones
 abbrev pub naturals : List ℤ → List ℕ

@@ -1,7 +1,7 @@
 -- Walks: the places of a shape as nested loops meet them.
 use Rattle.std.specs.Prelude.{◌≡◌, ◌≢◌, ℕ, ◌-◌, ◌≤◌, Bool, true, false, List, [], ◌∷◌, length, map, reverse, slice_index, slice_set}
 use Rattle.std.specs.List.{flat_map}
-use Rattle.a95_base.specs.Lists.{EachOf, AllLater, Has, Permuted, count_to}
+use Rattle.a95_base.specs.Lists.{Every, Pairwise, Member, Permuted, count_to}
 use Rattle.rank_shape.specs.Shape.{IsShape, IsPlace, size_of, places_of}
 use Rattle.rank_shape.specs.Order.{Level, IsOrder}
 
@@ -21,9 +21,9 @@ tour order extents = tour_from order extents (map (λ extent. 0) extents)
 
 -- every place of the shape, each once
 pub record IsWhole (extents : List ℕ) (places : List (List ℕ)) : Type 0 where
-  pub within : EachOf (IsPlace extents) places
-  pub every : (place : List ℕ) → IsPlace extents place → Has places place
-  pub once : AllLater (λ place later. place ≢ later) places
+  pub within : Every (IsPlace extents) places
+  pub every : (place : List ℕ) → IsPlace extents place → Member places place
+  pub once : Pairwise (λ place later. place ≢ later) places
   pub size : length places ≡ size_of extents
   pub reordered : Permuted places (places_of extents)
 

@@ -1,5 +1,5 @@
 ghost use Rattle.std.specs.Prelude.{◌≡◌, ℕ, ◌<◌, ◌≤◌, ◌↔◌, length, IsSome, IfSome, IsTrue};
-ghost use Rattle.a95_base.specs.Lists.{Has};
+ghost use Rattle.a95_base.specs.Lists.{Member};
 ghost use Rattle.rank_shape.specs.Order.{levels, level_at, IsOrder, element_order_of};
 ghost use Rattle.rank_shape.specs.Shape.{IsRank};
 
@@ -37,7 +37,7 @@ impl<const R: usize> Order<R> {
     /// The order with these loops, or None where a number from 1 to `R` is missing among them.
     pub fn new(loops: [u8; R], down: [bool; R]) -> Option<Order<R>>
         requires { IsRank R }
-        ensures named { IsSome result ↔ ((k : ℕ) → 1 ≤ k → k ≤ R → Has loops.entry k) }
+        ensures named { IsSome result ↔ ((k : ℕ) → 1 ≤ k → k ≤ R → Member loops.entry k) }
         ensures order { IfSome result (λ order. order ≡ levels loops.entry down.entry) }
     {
         if !names_all(&loops) {
@@ -91,7 +91,7 @@ impl<const R: usize> Order<R> {
 
 fn names_all<const R: usize>(loops: &[u8; R]) -> bool
     requires { R ≤ 7 }
-    ensures { IsTrue result ↔ ((k : ℕ) → 1 ≤ k → k ≤ R → Has loops.now k) }
+    ensures { IsTrue result ↔ ((k : ℕ) → 1 ≤ k → k ≤ R → Member loops.now k) }
 {
     for k in 0..R {
         if !is_named(loops, k as u8 + 1) {
@@ -102,7 +102,7 @@ fn names_all<const R: usize>(loops: &[u8; R]) -> bool
 }
 
 fn is_named<const R: usize>(loops: &[u8; R], number: u8) -> bool
-    ensures { IsTrue result ↔ Has loops.now number }
+    ensures { IsTrue result ↔ Member loops.now number }
 {
     loops.contains(&number)
 }

@@ -1,7 +1,7 @@
 -- Nested loops run the turns of a walk, and two loops one after the other are one.
 use Rattle.std.proofs.Common.{◌≡◌, ℕ, ◌-◌, List, [], ◌∷◌, ◌++◌, Result, Ok, Err, get_or, set, refl, sym, ap, ◌∙◌, subst}
 use Rattle.std.specs.List.{flat_map}
-use Rattle.a95_base.specs.Lists.{EachOf, AllLater}
+use Rattle.a95_base.specs.Lists.{Every, Pairwise}
 use Rattle.rank_shape.specs.Order.{Level}
 use Rattle.rank_shape.specs.Walk.{turns_of, tour_from, tour}
 use Rattle.store_laws.specs.Store.{and_then, Evaluated, Statement, direct}
@@ -49,7 +49,7 @@ direct_runs {T} {S} {V} {F} statement (t ∷ turns) s =
 
 module _ {T S F : Type 0} (first : T → S → Result S F) (Sound : S → Type 0) where
   -- a quiet loop never stops
-  loop_quiet : (turns : List T) (s : S) → EachOf (IsQuiet first Sound) turns → Sound s → (after : S) × ((run_each first turns s ≡ Ok after) × Sound after)
+  loop_quiet : (turns : List T) (s : S) → Every (IsQuiet first Sound) turns → Sound s → (after : S) × ((run_each first turns s ≡ Ok after) × Sound after)
   loop_quiet [] s quiet sound = (s, (refl, sound))
   loop_quiet (t ∷ turns) s quiet sound =
       let one = quiet.0.goes s sound in
@@ -57,7 +57,7 @@ module _ {T S F : Type 0} (first : T → S → Result S F) (Sound : S → Type 0
       (rest.0, (ap (λ r. and_then r (run_each first turns)) one.1.0 ∙ rest.1.0, rest.1.1))
 
   -- a step that passes each turn of a quiet loop passes the loop
-  pub step_passes : (step : S → Result S F) (turns : List T) (s : S) → EachOf (IsQuiet first Sound) turns → EachOf (Passes step first Sound) turns → Sound s → and_then (step s) (run_each first turns) ≡ and_then (run_each first turns s) step
+  pub step_passes : (step : S → Result S F) (turns : List T) (s : S) → Every (IsQuiet first Sound) turns → Every (Passes step first Sound) turns → Sound s → and_then (step s) (run_each first turns) ≡ and_then (run_each first turns s) step
   step_passes step [] s quiet passes sound = then_ok (step s)
   step_passes step (t ∷ turns) s quiet passes sound =
       let one = quiet.0.goes s sound in
@@ -67,7 +67,7 @@ module _ {T S F : Type 0} (first : T → S → Result S F) (Sound : S → Type 0
       ∙ step_passes step turns one.0 quiet.1 passes.1 one.1.1
       ∙ sym (ap (λ r. and_then (and_then r (run_each first turns)) step) one.1.0)
 
-  pub loops_fused : (second : T → S → Result S F) (turns : List T) (s : S) → EachOf (IsQuiet first Sound) turns → EachOf (λ t. KeepsSound (second t) Sound) turns → AllLater (λ t later. Passes (second t) first Sound later) turns → Sound s → and_then (run_each first turns s) (run_each second turns) ≡ run_each (both first second) turns s
+  pub loops_fused : (second : T → S → Result S F) (turns : List T) (s : S) → Every (IsQuiet first Sound) turns → Every (λ t. KeepsSound (second t) Sound) turns → Pairwise (λ t later. Passes (second t) first Sound later) turns → Sound s → and_then (run_each first turns s) (run_each second turns) ≡ run_each (both first second) turns s
   loops_fused second [] s quiet keeps passes sound = refl
   loops_fused second (t ∷ turns) s quiet keeps passes sound =
       let one = quiet.0.goes s sound in

@@ -1,8 +1,8 @@
 -- Stores made at once and stores made after all evaluations.
 use Rattle.std.proofs.Common.{◌≡◌, List, [], ◌∷◌, Result, Ok, Err, refl, sym, ap, ◌∙◌, subst}
-use Rattle.a95_base.specs.Lists.{EachOf, AllLater, Permuted}
+use Rattle.a95_base.specs.Lists.{Every, Pairwise, Permuted}
 use Rattle.a95_base.specs.Lists.Permuted.{none, skip, swap, join}
-use Rattle.a95_base.proofs.Permuted.{Permuted-EachOf, Permuted-AllLater}
+use Rattle.a95_base.proofs.Permuted.{Permuted-Every, Permuted-Pairwise}
 use Rattle.store_laws.specs.Store.{and_then, Evaluated, Statement, direct, values, store_all, deferred, Keeps, Ignores, IsStill, Commutes, StopsAlike}
 
 pub then_then : {A B C F : Type 0} (r : Result A F) (f : A → Result B F) (g : B → Result C F) → and_then (and_then r f) g ≡ and_then r (λ a. and_then (f a) g)
@@ -28,7 +28,7 @@ finish statement (turn ∷ turns) s base = and_then (statement.evaluate turn s) 
 
 module _ {T S V F : Type 0} (statement : Statement T S V F) (Sound : S → Type 0) (May : T → V → Type 0) where
   -- later values are the same before and after a store that they ignore
-  values_past : (turn : T) (v : V) → May turn v → Keeps statement Sound May turn → (later : List T) (s : S) → EachOf (Keeps statement Sound May) later → EachOf (Ignores statement Sound May turn) later → Sound s → values statement later (statement.store turn v s) ≡ and_then (values statement later s) (λ es. Ok (record { value = es.value; after = statement.store turn v es.after }))
+  values_past : (turn : T) (v : V) → May turn v → Keeps statement Sound May turn → (later : List T) (s : S) → Every (Keeps statement Sound May) later → Every (Ignores statement Sound May turn) later → Sound s → values statement later (statement.store turn v s) ≡ and_then (values statement later s) (λ es. Ok (record { value = es.value; after = statement.store turn v es.after }))
   values_past turn v may keeps [] s all_keep ignores sound = refl
   values_past turn v may keeps (t ∷ later) s all_keep ignores sound =
       let go : Evaluated V S → Result (Evaluated (List V) S) F = λ e. and_then (values statement later e.after) (λ es. Ok (record { value = e.value ∷ es.value; after = es.after })) in
@@ -44,7 +44,7 @@ module _ {T S V F : Type 0} (statement : Statement T S V F) (Sound : S → Type 
       ∙ sym (then_then (values statement later e.after) (λ es. Ok (record { value = e.value ∷ es.value; after = es.after })) put))
       ∙ sym (then_then (statement.evaluate t s) go put)
 
-  pub direct_deferred : (turns : List T) (s : S) → EachOf (Keeps statement Sound May) turns → AllLater (Ignores statement Sound May) turns → Sound s → direct statement turns s ≡ deferred statement turns s
+  pub direct_deferred : (turns : List T) (s : S) → Every (Keeps statement Sound May) turns → Pairwise (Ignores statement Sound May) turns → Sound s → direct statement turns s ≡ deferred statement turns s
   direct_deferred [] s keeps ignores sound = refl
   direct_deferred (t ∷ turns) s keeps ignores sound =
       let go : Evaluated V S → Result (Evaluated (List V) S) F = λ e. and_then (values statement turns e.after) (λ es. Ok (record { value = e.value ∷ es.value; after = es.after })) in
@@ -60,7 +60,7 @@ module _ {T S V F : Type 0} (statement : Statement T S V F) (Sound : S → Type 
       ∙ sym (then_then (statement.evaluate t s) go whole)
 
   -- evaluations that leave the state alone may be taken in the state where all began
-  deferred_finish : (turns : List T) (s : S) (into : S → S) → Sound s → EachOf (IsStill statement Sound) turns → and_then (values statement turns s) (λ es. Ok (store_all statement turns es.value (into es.after))) ≡ finish statement turns s (into s)
+  deferred_finish : (turns : List T) (s : S) (into : S → S) → Sound s → Every (IsStill statement Sound) turns → and_then (values statement turns s) (λ es. Ok (store_all statement turns es.value (into es.after))) ≡ finish statement turns s (into s)
   unfolding finish
   deferred_finish [] s into sound still = refl
   deferred_finish (t ∷ turns) s into sound still =
@@ -74,7 +74,7 @@ module _ {T S V F : Type 0} (statement : Statement T S V F) (Sound : S → Type 
       ∙ deferred_finish turns e.after (λ x. statement.store t e.value (into x)) (subst Sound (sym same) sound) still.1
       ∙ ap (λ x. finish statement turns x (statement.store t e.value (into x))) same)
 
-  finish_permuted : {xs ys : List T} (s base : S) → Permuted xs ys → Sound s → Sound base → EachOf (Keeps statement Sound May) xs → AllLater (Commutes statement Sound May) xs → AllLater (StopsAlike statement s) xs → finish statement xs s base ≡ finish statement ys s base
+  finish_permuted : {xs ys : List T} (s base : S) → Permuted xs ys → Sound s → Sound base → Every (Keeps statement Sound May) xs → Pairwise (Commutes statement Sound May) xs → Pairwise (StopsAlike statement s) xs → finish statement xs s base ≡ finish statement ys s base
   unfolding finish
   finish_permuted s base none sound base_sound keeps commutes alike = refl
   finish_permuted s base (skip t {xs = xs} {ys = ys} p) sound base_sound keeps commutes alike =
@@ -88,12 +88,12 @@ module _ {T S V F : Type 0} (statement : Statement T S V F) (Sound : S → Type 
       (λ stop other x_is y_is. alike.0.0.same stop other x_is y_is)
   finish_permuted s base (join p q) sound base_sound keeps commutes alike =
       finish_permuted s base p sound base_sound keeps commutes alike
-      ∙ finish_permuted s base q sound base_sound (Permuted-EachOf (Keeps statement Sound May) p keeps)
-      (Permuted-AllLater (Commutes statement Sound May) (λ a b c. record { same = λ v w x x_sound may_v may_w. sym (c.same w v x x_sound may_w may_v) }) p commutes)
-      (Permuted-AllLater (StopsAlike statement s) (λ a b c. record { same = λ f g f_is g_is. sym (c.same g f g_is f_is) }) p alike)
+      ∙ finish_permuted s base q sound base_sound (Permuted-Every (Keeps statement Sound May) p keeps)
+      (Permuted-Pairwise (Commutes statement Sound May) (λ a b c. record { same = λ v w x x_sound may_v may_w. sym (c.same w v x x_sound may_w may_v) }) p commutes)
+      (Permuted-Pairwise (StopsAlike statement s) (λ a b c. record { same = λ f g f_is g_is. sym (c.same g f g_is f_is) }) p alike)
 
-  pub deferred_permuted : {xs ys : List T} (s : S) → Permuted xs ys → Sound s → EachOf (Keeps statement Sound May) xs → EachOf (IsStill statement Sound) xs → AllLater (Commutes statement Sound May) xs → AllLater (StopsAlike statement s) xs → deferred statement xs s ≡ deferred statement ys s
+  pub deferred_permuted : {xs ys : List T} (s : S) → Permuted xs ys → Sound s → Every (Keeps statement Sound May) xs → Every (IsStill statement Sound) xs → Pairwise (Commutes statement Sound May) xs → Pairwise (StopsAlike statement s) xs → deferred statement xs s ≡ deferred statement ys s
   deferred_permuted {xs} {ys} s p sound keeps still commutes alike =
       deferred_finish xs s (λ x. x) sound still
       ∙ finish_permuted s s p sound sound keeps commutes alike
-      ∙ sym (deferred_finish ys s (λ x. x) sound (Permuted-EachOf (IsStill statement Sound) p still))
+      ∙ sym (deferred_finish ys s (λ x. x) sound (Permuted-Every (IsStill statement Sound) p still))

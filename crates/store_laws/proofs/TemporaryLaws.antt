@@ -1,6 +1,6 @@
 -- Two loops through a temporary are a store after all evaluations.
 use Rattle.std.proofs.Common.{◌≡◌, List, [], ◌∷◌, Result, Ok, Err, refl, sym, ap, ◌∙◌, subst}
-use Rattle.a95_base.specs.Lists.{EachOf, AllLater}
+use Rattle.a95_base.specs.Lists.{Every, Pairwise}
 use Rattle.store_laws.specs.Store.{and_then, Evaluated, Statement, direct, values, store_all, deferred, Keeps, Ignores, Temporary, filling, store_kept, through, IsKeptApart, KeepsOther}
 use Rattle.store_laws.proofs.StoreLaws.{then_then, then_same, direct_deferred}
 
@@ -29,7 +29,7 @@ values_same statement temporary (t ∷ turns) s =
 
 module _ {T S V F : Type 0} (statement : Statement T S V F) (temporary : Temporary T S V) (Sound : S → Type 0) (May : T → V → Type 0) where
   -- what all evaluations leave
-  values_known : (turns : List T) (s : S) (es : Evaluated (List V) S) → EachOf (Keeps statement Sound May) turns → Sound s → values statement turns s ≡ Ok es → MayAll May turns es.value × Sound es.after
+  values_known : (turns : List T) (s : S) (es : Evaluated (List V) S) → Every (Keeps statement Sound May) turns → Sound s → values statement turns s ≡ Ok es → MayAll May turns es.value × Sound es.after
   values_known [] s es keeps sound is =
       let same = ok_is (record { value = []; after = s }) es is in
       let P : Evaluated (List V) S → Type 0 = λ x. MayAll May [] x.value × Sound x.after in
@@ -43,7 +43,7 @@ module _ {T S V F : Type 0} (statement : Statement T S V F) (temporary : Tempora
       subst P (ok_is (record { value = one.0.value ∷ rest.0.value; after = rest.0.after }) es rest.1.1) ((known.1, others.0), others.1)
 
   -- values kept later leave an earlier one
-  fetch_earlier : (turn : T) (turns : List T) (vs : List V) (s : S) → EachOf (Keeps (filling statement temporary) Sound May) turns → EachOf (KeepsOther temporary Sound May turn) turns → MayAll May turns vs → Sound s → temporary.fetch turn (store_all (filling statement temporary) turns vs s) ≡ temporary.fetch turn s
+  fetch_earlier : (turn : T) (turns : List T) (vs : List V) (s : S) → Every (Keeps (filling statement temporary) Sound May) turns → Every (KeepsOther temporary Sound May turn) turns → MayAll May turns vs → Sound s → temporary.fetch turn (store_all (filling statement temporary) turns vs s) ≡ temporary.fetch turn s
   fetch_earlier turn [] [] s keeps others may sound = refl
   fetch_earlier turn [] (v ∷ vs) s keeps others may sound = absurd may
   fetch_earlier turn (t ∷ turns) [] s keeps others may sound = absurd may
@@ -51,7 +51,7 @@ module _ {T S V F : Type 0} (statement : Statement T S V F) (temporary : Tempora
       fetch_earlier turn turns vs (temporary.keep t v s) keeps.1 others.1 may.1 (keeps.0.stored v s sound may.0) ∙ others.0.same v s sound may.0
 
   -- a store passes all that is kept
-  store_past : (apart : IsKeptApart statement temporary Sound May) (turn : T) (v : V) (turns : List T) (vs : List V) (s : S) → EachOf (Keeps (filling statement temporary) Sound May) turns → MayAll May turns vs → Sound s → May turn v → statement.store turn v (store_all (filling statement temporary) turns vs s) ≡ store_all (filling statement temporary) turns vs (statement.store turn v s)
+  store_past : (apart : IsKeptApart statement temporary Sound May) (turn : T) (v : V) (turns : List T) (vs : List V) (s : S) → Every (Keeps (filling statement temporary) Sound May) turns → MayAll May turns vs → Sound s → May turn v → statement.store turn v (store_all (filling statement temporary) turns vs s) ≡ store_all (filling statement temporary) turns vs (statement.store turn v s)
   store_past apart turn v [] [] s keeps may sound may_v = refl
   store_past apart turn v [] (w ∷ vs) s keeps may sound may_v = absurd may
   store_past apart turn v (t ∷ turns) [] s keeps may sound may_v = absurd may
@@ -59,7 +59,7 @@ module _ {T S V F : Type 0} (statement : Statement T S V F) (temporary : Tempora
       store_past apart turn v turns vs (temporary.keep t w s) keeps.1 may.1 (keeps.0.stored w s sound may.0) may_v
       ∙ ap (store_all (filling statement temporary) turns vs) (apart.aside turn t v w s sound may_v may.0)
 
-  keep_past : (apart : IsKeptApart statement temporary Sound May) (turn : T) (v : V) (turns : List T) (vs : List V) (s : S) → EachOf (Keeps statement Sound May) turns → MayAll May turns vs → Sound s → May turn v → store_all statement turns vs (temporary.keep turn v s) ≡ temporary.keep turn v (store_all statement turns vs s)
+  keep_past : (apart : IsKeptApart statement temporary Sound May) (turn : T) (v : V) (turns : List T) (vs : List V) (s : S) → Every (Keeps statement Sound May) turns → MayAll May turns vs → Sound s → May turn v → store_all statement turns vs (temporary.keep turn v s) ≡ temporary.keep turn v (store_all statement turns vs s)
   keep_past apart turn v [] [] s keeps may sound may_v = refl
   keep_past apart turn v [] (w ∷ vs) s keeps may sound may_v = absurd may
   keep_past apart turn v (t ∷ turns) [] s keeps may sound may_v = absurd may
@@ -67,7 +67,7 @@ module _ {T S V F : Type 0} (statement : Statement T S V F) (temporary : Tempora
       ap (store_all statement turns vs) (apart.aside t turn w v s sound may.0 may_v)
       ∙ keep_past apart turn v turns vs (statement.store t w s) keeps.1 may.1 (keeps.0.stored w s sound may.0) may_v
 
-  all_kept : (apart : IsKeptApart statement temporary Sound May) (turns : List T) (vs : List V) (s : S) → EachOf (Keeps statement Sound May) turns → EachOf (Keeps (filling statement temporary) Sound May) turns → AllLater (KeepsOther temporary Sound May) turns → MayAll May turns vs → Sound s → store_kept statement temporary turns (store_all (filling statement temporary) turns vs s) ≡ store_all (filling statement temporary) turns vs (store_all statement turns vs s)
+  all_kept : (apart : IsKeptApart statement temporary Sound May) (turns : List T) (vs : List V) (s : S) → Every (Keeps statement Sound May) turns → Every (Keeps (filling statement temporary) Sound May) turns → Pairwise (KeepsOther temporary Sound May) turns → MayAll May turns vs → Sound s → store_kept statement temporary turns (store_all (filling statement temporary) turns vs s) ≡ store_all (filling statement temporary) turns vs (store_all statement turns vs s)
   all_kept apart [] [] s keeps fills others may sound = refl
   all_kept apart [] (v ∷ vs) s keeps fills others may sound = absurd may
   all_kept apart (t ∷ turns) [] s keeps fills others may sound = absurd may
@@ -81,7 +81,7 @@ module _ {T S V F : Type 0} (statement : Statement T S V F) (temporary : Tempora
       ∙ ap (store_all (filling statement temporary) turns vs) (keep_past apart t v turns vs (statement.store t v s) keeps.1 may.1 stored_sound may.0)
 
   -- besides what the temporary then has, two loops through it do what a store after all evaluations does
-  pub through_deferred : (apart : IsKeptApart statement temporary Sound May) (turns : List T) (s : S) → EachOf (Keeps statement Sound May) turns → EachOf (Keeps (filling statement temporary) Sound May) turns → AllLater (Ignores (filling statement temporary) Sound May) turns → AllLater (KeepsOther temporary Sound May) turns → Sound s → through statement temporary turns s ≡ and_then (values statement turns s) (λ es. Ok (store_all (filling statement temporary) turns es.value (store_all statement turns es.value es.after)))
+  pub through_deferred : (apart : IsKeptApart statement temporary Sound May) (turns : List T) (s : S) → Every (Keeps statement Sound May) turns → Every (Keeps (filling statement temporary) Sound May) turns → Pairwise (Ignores (filling statement temporary) Sound May) turns → Pairwise (KeepsOther temporary Sound May) turns → Sound s → through statement temporary turns s ≡ and_then (values statement turns s) (λ es. Ok (store_all (filling statement temporary) turns es.value (store_all statement turns es.value es.after)))
   through_deferred apart turns s keeps fills ignores others sound =
       let last : S → Result S F = λ filled. Ok (store_kept statement temporary turns filled) in
       ap (λ r. and_then r last)

@@ -8,7 +8,7 @@
 #![tactic(auto)]
 
 ghost use Rattle.std.specs.Prelude.{◌≡◌, ℕ, List, Bool, IsTrue, Result};
-ghost use Rattle.a95_base.specs.Lists.{EachOf, AllLater, Permuted};
+ghost use Rattle.a95_base.specs.Lists.{Every, Pairwise, Permuted};
 ghost use Rattle.rank_shape.specs.Order.{element_order_of};
 ghost use Rattle.rank_shape.specs.Walk.{tour};
 ghost use Rattle.loop_order.specs.Legal.{IsLegal, distances_of};
@@ -22,8 +22,8 @@ use rank_shape::{Dist, Order, Shape};
 /// early included.
 pub fn store_at_once<T, S, V, F>()
     ensures { (statement : Statement T S V F) (sound : S → Bool) (may : T → V → Bool) (turns : List T) (s : S) →
-        EachOf (Keeps statement (λ s. IsTrue (sound s)) (λ t v. IsTrue (may t v))) turns →
-        AllLater (Ignores statement (λ s. IsTrue (sound s)) (λ t v. IsTrue (may t v))) turns →
+        Every (Keeps statement (λ s. IsTrue (sound s)) (λ t v. IsTrue (may t v))) turns →
+        Pairwise (Ignores statement (λ s. IsTrue (sound s)) (λ t v. IsTrue (may t v))) turns →
         IsTrue (sound s) →
         direct statement turns s ≡ deferred statement turns s }
 {}
@@ -33,10 +33,10 @@ pub fn store_at_once<T, S, V, F>()
 pub fn store_in_any_order<T, S, V, F>()
     ensures { (statement : Statement T S V F) (sound : S → Bool) (may : T → V → Bool) (turns others : List T) (s : S) →
         Permuted turns others →
-        EachOf (Keeps statement (λ s. IsTrue (sound s)) (λ t v. IsTrue (may t v))) turns →
-        EachOf (IsStill statement (λ s. IsTrue (sound s))) turns →
-        AllLater (Commutes statement (λ s. IsTrue (sound s)) (λ t v. IsTrue (may t v))) turns →
-        AllLater (StopsAlike statement s) turns →
+        Every (Keeps statement (λ s. IsTrue (sound s)) (λ t v. IsTrue (may t v))) turns →
+        Every (IsStill statement (λ s. IsTrue (sound s))) turns →
+        Pairwise (Commutes statement (λ s. IsTrue (sound s)) (λ t v. IsTrue (may t v))) turns →
+        Pairwise (StopsAlike statement s) turns →
         IsTrue (sound s) →
         deferred statement turns s ≡ deferred statement others s }
 {}
@@ -86,8 +86,8 @@ pub fn nested_loops_walk<S, F, const R: usize>(shape: &Shape<R>, order: &Order<R
 /// A step that passes each turn of a loop which never stops may come before the loop in place of after it.
 pub fn step_before_loop<T, S, F>()
     ensures { (step : S → Result S F) (body : T → S → Result S F) (sound : S → Bool) (turns : List T) (s : S) →
-        EachOf (IsQuiet body (λ s. IsTrue (sound s))) turns →
-        EachOf (Passes step body (λ s. IsTrue (sound s))) turns →
+        Every (IsQuiet body (λ s. IsTrue (sound s))) turns →
+        Every (Passes step body (λ s. IsTrue (sound s))) turns →
         IsTrue (sound s) →
         and_then (step s) (run_each body turns) ≡ and_then (run_each body turns s) step }
 {}
@@ -96,9 +96,9 @@ pub fn step_before_loop<T, S, F>()
 /// the first.
 pub fn loops_made_one<T, S, F>()
     ensures { (first second : T → S → Result S F) (sound : S → Bool) (turns : List T) (s : S) →
-        EachOf (IsQuiet first (λ s. IsTrue (sound s))) turns →
-        EachOf (λ t. KeepsSound (second t) (λ s. IsTrue (sound s))) turns →
-        AllLater (λ t later. Passes (second t) first (λ s. IsTrue (sound s)) later) turns →
+        Every (IsQuiet first (λ s. IsTrue (sound s))) turns →
+        Every (λ t. KeepsSound (second t) (λ s. IsTrue (sound s))) turns →
+        Pairwise (λ t later. Passes (second t) first (λ s. IsTrue (sound s)) later) turns →
         IsTrue (sound s) →
         and_then (run_each first turns s) (run_each second turns) ≡ run_each (both first second) turns s }
 {}
@@ -108,10 +108,10 @@ pub fn loops_made_one<T, S, F>()
 pub fn store_through_temporary<T, S, V, F>()
     ensures { (statement : Statement T S V F) (temporary : Temporary T S V) (sound : S → Bool) (may : T → V → Bool) (turns : List T) (s : S) →
         IsKeptApart statement temporary (λ s. IsTrue (sound s)) (λ t v. IsTrue (may t v)) →
-        EachOf (Keeps statement (λ s. IsTrue (sound s)) (λ t v. IsTrue (may t v))) turns →
-        EachOf (Keeps (filling statement temporary) (λ s. IsTrue (sound s)) (λ t v. IsTrue (may t v))) turns →
-        AllLater (Ignores (filling statement temporary) (λ s. IsTrue (sound s)) (λ t v. IsTrue (may t v))) turns →
-        AllLater (KeepsOther temporary (λ s. IsTrue (sound s)) (λ t v. IsTrue (may t v))) turns →
+        Every (Keeps statement (λ s. IsTrue (sound s)) (λ t v. IsTrue (may t v))) turns →
+        Every (Keeps (filling statement temporary) (λ s. IsTrue (sound s)) (λ t v. IsTrue (may t v))) turns →
+        Pairwise (Ignores (filling statement temporary) (λ s. IsTrue (sound s)) (λ t v. IsTrue (may t v))) turns →
+        Pairwise (KeepsOther temporary (λ s. IsTrue (sound s)) (λ t v. IsTrue (may t v))) turns →
         IsTrue (sound s) →
         through statement temporary turns s
         ≡ and_then (values statement turns s) (λ es. Ok (store_all (filling statement temporary) turns es.value (store_all statement turns es.value es.after))) }
