@@ -2,4 +2,5 @@ pub mod Fault
 pub mod Input
 pub mod Integer
 pub mod Lists
+pub mod Outcome
 pub mod Record

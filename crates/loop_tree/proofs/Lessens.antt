@@ -4,6 +4,8 @@ use Rattle.std.proofs.Common.{◌≡◌, ℕ, suc, ◌+◌, ◌≤◌, ◌<◌, 
 use Rattle.std.specs.Int.{w64, int_wrap}
 use Rattle.std.specs.List.{AllByRecursion, list_all}
 use Rattle.a95_base.specs.Input.{Reading, Integer, NoMore, NoInteger, next_value}
+use Rattle.loop_tree.specs.declared.stuck.StuckState.{StuckState}
+use Rattle.loop_tree.specs.declared.stuck.StuckState.TheVariants as stuck
 use Rattle.loop_tree.specs.declared.atom.Atom.{Atom}
 use Rattle.loop_tree.specs.declared.atom.Argument.{Argument}
 use Rattle.loop_tree.specs.declared.row.IntValue.{IntValue}
@@ -91,7 +93,7 @@ loop_end_short n (Forever body ∷ braces) lists h = short_first n lists h
 
 -- ---- each line
 
-given_lessens : {A : Type 0} (n : ℕ) (r : Result A ℕ) (next : A → State) → ((a : A) → left_over (next a) < n) → Lessens n (given r next)
+given_lessens : {A : Type 0} (n : ℕ) (r : Result A StuckState) (next : A → State) → ((a : A) → left_over (next a) < n) → Lessens n (given r next)
 given_lessens n (Ok a) next h = h a
 given_lessens n (Err why) next h = tt
 
@@ -184,7 +186,7 @@ block_lessens n s (block.SameTexts m k) less = given_lessens n _ _ (λ x. less)
 block_lessens n s (block.Grow r a) less = given_lessens n _ _ (λ x. less)
 block_lessens n s (block.Free r) less = given_lessens n _ _ (λ x. less)
 
-entry_lessens : (n : ℕ) (s : State) (function : Function) (arguments : List Argument) (b : Bool) → Lessens n (if b then machine.turn (machine.enter s function arguments) else Ends (Stuck 4))
+entry_lessens : (n : ℕ) (s : State) (function : Function) (arguments : List Argument) (b : Bool) → Lessens n (if b then machine.turn (machine.enter s function arguments) else Ends (Stuck stuck.WrongCall))
 entry_lessens n s function arguments true = tt
 entry_lessens n s function arguments false = tt
 
@@ -192,7 +194,7 @@ enter_lessens : (n : ℕ) (s : State) (function : Option Function) (arguments : 
 enter_lessens n s None arguments = tt
 enter_lessens n s (Some function) arguments = entry_lessens n s function arguments (machine.match_letters arguments function.parameters)
 
-usable_lessens : (n : ℕ) (s : State) (function : Option Function) (arguments : List Argument) (b : Bool) → Lessens n (if b then enter_if s function arguments else Ends (Stuck 2))
+usable_lessens : (n : ℕ) (s : State) (function : Option Function) (arguments : List Argument) (b : Bool) → Lessens n (if b then enter_if s function arguments else Ends (Stuck stuck.NoBlock))
 usable_lessens n s function arguments true = enter_lessens n s function arguments
 usable_lessens n s function arguments false = tt
 

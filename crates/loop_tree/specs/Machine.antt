@@ -5,8 +5,11 @@ use Rattle.std.specs.List.{list_all}
 use Rattle.a95_base.specs.declared.scalar.Scalar.{Scalar}
 use Rattle.a95_base.specs.declared.scalar.Scalar.TheVariants as scalar
 use Rattle.a95_base.specs.Integer.{wrapped}
+use Rattle.a95_base.specs.Outcome.{Ended, Faulted}
 use Rattle.a95_base.specs.Input.{Reading, Integer, NoMore, NoInteger, next_value, record_length}
 use Rattle.a95_base.specs.Record.{record_text}
+use Rattle.loop_tree.specs.declared.stuck.StuckState.{StuckState}
+use Rattle.loop_tree.specs.declared.stuck.StuckState.TheVariants as stuck
 use Rattle.loop_tree.specs.declared.atom.Letter.{Letter}
 use Rattle.loop_tree.specs.declared.atom.Letter.TheVariants as letter
 use Rattle.loop_tree.specs.declared.atom.Atom.{Atom}
@@ -29,7 +32,7 @@ use Rattle.loop_tree.specs.declared.tree.CodeLine.{CodeLine}
 use Rattle.loop_tree.specs.declared.tree.CodeLine.TheVariants as code
 use Rattle.loop_tree.specs.declared.tree.Function.{Function}
 use Rattle.loop_tree.specs.Lines.{lines_of}
-use Rattle.loop_tree.specs.State.{Brace, Choice, Upward, Downward, Forever, Cells, Ints, Texts, Block, Frame, State, Ended, Faulted, Stuck, Next, Goes, Ends, with_frame, with_rest, with_place, set_int, set_index, set_text, set_int_block, set_text_block, cells_at, with_cells, without, made_before, with_new_block, with_blocks}
+use Rattle.loop_tree.specs.State.{Brace, Choice, Upward, Downward, Forever, Cells, Ints, Texts, Block, Frame, State, Comes, Stuck, Next, Goes, Ends, with_frame, with_rest, with_place, set_int, set_index, set_text, set_int_block, set_text_block, cells_at, with_cells, without, made_before, with_new_block, with_blocks}
 use Rattle.loop_tree.specs.Values.{number_at, block_at, atom_of, text_of, block_of, holds, and_then, ints_of, texts_of, stored, zeros, texts_of_length, grown, is_live, int_value, text_value}
 
 -- a step that begins no turn and writes nothing
@@ -40,8 +43,8 @@ quiet s = Goes false [] s
 abbrev pub turn : State → Next
 turn s = Goes true [] s
 
--- a value leads on, a number of a stuck state ends
-abbrev pub given : {A : Type 0} → Result A ℕ → (A → State) → Next
+-- a value leads on, a stuck state ends
+abbrev pub given : {A : Type 0} → Result A StuckState → (A → State) → Next
 given (Ok value) next = quiet (next value)
 given (Err why) next = Ends (Stuck why)
 
@@ -87,7 +90,7 @@ loop_end braces exits = record { lines = first_exit exits; braces = braces }
 
 -- the call that made this one goes on, and the blocks that this one made are freed. Where none did, the run ends
 abbrev pub back_to : State → List Frame → Next
-back_to s [] = Ends Ended
+back_to s [] = Ends (Comes Ended)
 back_to s (caller ∷ callers) = quiet (record s { now = caller; callers = callers; blocks = made_before s.blocks s.now.mark })
 
 unfoldable pub leave : State → Next
@@ -152,8 +155,8 @@ else_line s = quiet (with_place s (behind s.now.rest) (rest_of s.now.braces))
 -- f_take takes the integer that it gives
 abbrev pub take_line : State → ℕ → Reading → Next
 take_line s n (Integer value used) = quiet (set_int (record s { input = drop used s.input }) n value)
-take_line s n NoMore = Ends (Stuck 8)
-take_line s n NoInteger = Ends (Stuck 8)
+take_line s n NoMore = Ends (Stuck stuck.NoInteger)
+take_line s n NoInteger = Ends (Stuck stuck.NoInteger)
 
 unfoldable pub int_line : State → ℕ → IntValue → Next
 int_line s n (int.Take a) = take_line s n (next_value (holds (atom_of s a)) s.input)
@@ -163,17 +166,17 @@ unfoldable pub text_line : State → ℕ → TextValue → Next
 text_line s n value = given (text_value s value) (set_text s n)
 
 -- a block's cells after a row, where the block lives
-abbrev pub changed : List Block → Option ℕ → (Cells → Result Cells ℕ) → Result (List Block) ℕ
-changed blocks None change = Err 2
+abbrev pub changed : List Block → Option ℕ → (Cells → Result Cells StuckState) → Result (List Block) StuckState
+changed blocks None change = Err stuck.NoBlock
 changed blocks (Some n) change = and_then (cells_at blocks (Some n)) (λ cells. and_then (change cells) (λ new. Ok (with_cells blocks n new)))
 
-abbrev pub store_int : ℤ → ℤ → Cells → Result Cells ℕ
+abbrev pub store_int : ℤ → ℤ → Cells → Result Cells StuckState
 store_int i value cells = and_then (ints_of cells) (λ ints. and_then (stored ints i value) (λ new. Ok (Ints new)))
 
-abbrev pub store_text : ℤ → List ℕ → Cells → Result Cells ℕ
+abbrev pub store_text : ℤ → List ℕ → Cells → Result Cells StuckState
 store_text i value cells = and_then (texts_of cells) (λ texts. and_then (stored texts i value) (λ new. Ok (Texts new)))
 
-unfoldable pub change_line : State → Option ℕ → (Cells → Result Cells ℕ) → Next
+unfoldable pub change_line : State → Option ℕ → (Cells → Result Cells StuckState) → Next
 change_line s block change = given (changed s.blocks block change) (with_blocks s)
 
 abbrev pub freed : List Block → Option ℕ → List Block
@@ -273,8 +276,8 @@ abbrev pub enter : State → Function → List Argument → State
 enter s function arguments = record s { now = callee s function arguments; callers = s.now ∷ s.callers }
 
 abbrev pub enter_if : State → Option Function → List Argument → Next
-enter_if s None arguments = Ends (Stuck 4)
-enter_if s (Some function) arguments = if match_letters arguments function.parameters then turn (enter s function arguments) else Ends (Stuck 4)
+enter_if s None arguments = Ends (Stuck stuck.WrongCall)
+enter_if s (Some function) arguments = if match_letters arguments function.parameters then turn (enter s function arguments) else Ends (Stuck stuck.WrongCall)
 
 -- function 0 is not called
 abbrev pub callable : List Function → ℕ → Option Function
@@ -282,7 +285,7 @@ callable functions zero = None
 callable functions (suc n) = slice_get functions (suc n)
 
 unfoldable pub call_line : List Function → State → ℕ → List Argument → Next
-call_line functions s n arguments = if list_all (is_usable s) arguments then enter_if s (callable functions n) arguments else Ends (Stuck 2)
+call_line functions s n arguments = if list_all (is_usable s) arguments then enter_if s (callable functions n) arguments else Ends (Stuck stuck.NoBlock)
 
 -- ---- control
 
@@ -300,8 +303,8 @@ control_line functions s control.Break = break_line s (loop_end s.now.braces (ex
 control_line functions s control.Continue = continue_line s (loop_end s.now.braces (exits s.now.rest))
 control_line functions s control.Return = leave s
 control_line functions s (control.Call n arguments) = call_line functions s n arguments
-control_line functions s control.Stop = Ends Ended
-control_line functions s (control.Fault kind) = Ends (Faulted kind s.now.line)
+control_line functions s control.Stop = Ends (Comes Ended)
+control_line functions s (control.Fault kind) = Ends (Comes (Faulted kind s.now.line))
 control_line functions s (control.At n) = at_line s n
 
 -- ---- records

@@ -1,7 +1,9 @@
 -- What a running LoopC program consists of.
 use Rattle.std.specs.Prelude.{ℕ, zero, suc, ℤ, pos, ◌+◌, ◌==◌, Bool, not, nat_lt, if◌then◌else◌, List, [], ◌∷◌, map, filter, Option, Some, None, Result, Ok, Err}
-use Rattle.a95_base.specs.declared.fault.FaultKind.{FaultKind}
+use Rattle.a95_base.specs.Outcome.{Stop}
 use Rattle.a95_base.specs.declared.scalar.Scalar.{Scalar}
+use Rattle.loop_tree.specs.declared.stuck.StuckState.{StuckState}
+use Rattle.loop_tree.specs.declared.stuck.StuckState.TheVariants as stuck
 use Rattle.loop_tree.specs.declared.atom.Atom.{Atom}
 use Rattle.loop_tree.specs.declared.tree.CodeLine.{CodeLine}
 
@@ -46,14 +48,14 @@ pub record State : Type 0 where
   pub pending : List Scalar
   pub input : List ℕ
 
+-- what ends a program: what ends a source, or that it has no step
 pub data End : Type 0 where
-  Ended : End
-  Faulted : (kind : FaultKind) (line : ℕ) → End
-  Stuck : (why : ℕ) → End
+  Comes : (stop : Stop) → End
+  Stuck : (why : StuckState) → End
 
 -- what one step does: it may begin a turn and write a record
 pub data Next : Type 0 where
-  Goes : (turn : Bool) (wrote : List ℕ) (state : State) → Next
+  Goes : (turn : Bool) (written : List ℕ) (state : State) → Next
   Ends : (how : End) → Next
 
 -- ---- variables
@@ -96,12 +98,12 @@ cells_numbered [] n = None
 cells_numbered (b ∷ bs) n = if b.number == n then Some b.cells else cells_numbered bs n
 
 -- the cells of the block that a reference leads to; stuck where it leads to none that lives
-abbrev pub cells_or_stuck : Option Cells → Result Cells ℕ
-cells_or_stuck None = Err 2
+abbrev pub cells_or_stuck : Option Cells → Result Cells StuckState
+cells_or_stuck None = Err stuck.NoBlock
 cells_or_stuck (Some cells) = Ok cells
 
-abbrev pub cells_at : List Block → Option ℕ → Result Cells ℕ
-cells_at blocks None = Err 2
+abbrev pub cells_at : List Block → Option ℕ → Result Cells StuckState
+cells_at blocks None = Err stuck.NoBlock
 cells_at blocks (Some n) = cells_or_stuck (cells_numbered blocks n)
 
 -- the blocks after the one of this number got other cells, was freed, and after those from a number on were freed

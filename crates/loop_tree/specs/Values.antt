@@ -1,10 +1,11 @@
--- What a row reads. A value or the number of the stuck state: 1 for an index outside its block, 2 for a reference to
--- no living block, 3 for a divisor 0, 5 for a size, 6 for a part of a text, 7 for a byte, 9 for an exponent.
+-- What a row reads: a value, or the stuck state.
 use Rattle.std.specs.Prelude.{ℕ, ℤ, pos, negsuc, ◌+ℤ◌, ◌-ℤ◌, ◌*ℤ◌, ◌+◌, ◌-◌, ◌^◌, Bool, true, false, not, ◌&&◌, nat_lt, nat_le, int_lt, int_le, int_div, int_rem, if◌then◌else◌, List, [], ◌∷◌, ◌++◌, length, get_or, set, replicate, Option, None, Result, Ok, Err}
 use Rattle.std.specs.Int.{w64, int_wrap, int_pow, int_bit_and, int_bit_or, int_bit_xor}
 use Rattle.std.specs.Ordering.{int_eq}
 use Rattle.a95_base.specs.Integer.{wrapped}
 use Rattle.a95_base.specs.Input.{Reading, Integer, NoMore, NoInteger, next_value}
+use Rattle.loop_tree.specs.declared.stuck.StuckState.{StuckState}
+use Rattle.loop_tree.specs.declared.stuck.StuckState.TheVariants as stuck
 use Rattle.loop_tree.specs.declared.atom.Atom.{Atom}
 use Rattle.loop_tree.specs.declared.atom.Atom.TheVariants as atom
 use Rattle.loop_tree.specs.declared.atom.TextAtom.{TextAtom}
@@ -64,14 +65,14 @@ holds z = not (int_eq z (pos 0))
 
 -- ---- integers
 
-abbrev pub quotient : ℤ → ℤ → Result ℤ ℕ
-quotient x y = if int_eq y (pos 0) then Err 3 else Ok (int_wrap w64 (int_div x y))
+abbrev pub quotient : ℤ → ℤ → Result ℤ StuckState
+quotient x y = if int_eq y (pos 0) then Err stuck.ZeroDivisor else Ok (int_wrap w64 (int_div x y))
 
-abbrev pub remainder : ℤ → ℤ → Result ℤ ℕ
-remainder x y = if int_eq y (pos 0) then Err 3 else Ok (int_rem x y)
+abbrev pub remainder : ℤ → ℤ → Result ℤ StuckState
+remainder x y = if int_eq y (pos 0) then Err stuck.ZeroDivisor else Ok (int_rem x y)
 
 -- arithmetic wraps at 64 bits
-unfoldable pub operation : Operator → ℤ → ℤ → Result ℤ ℕ
+unfoldable pub operation : Operator → ℤ → ℤ → Result ℤ StuckState
 operation operator.Add x y = Ok (int_wrap w64 (x +ℤ y))
 operation operator.Subtract x y = Ok (int_wrap w64 (x -ℤ y))
 operation operator.Multiply x y = Ok (int_wrap w64 (x *ℤ y))
@@ -85,49 +86,49 @@ operation operator.And x y = Ok (int_bit_and w64 x y)
 operation operator.Or x y = Ok (int_bit_or w64 x y)
 
 -- the wrapped power of wrapped numbers
-abbrev pub power_of : ℤ → ℤ → Result ℤ ℕ
+abbrev pub power_of : ℤ → ℤ → Result ℤ StuckState
 power_of base (pos n) = Ok (wrapped (int_pow base n))
-power_of base (negsuc n) = Err 9
+power_of base (negsuc n) = Err stuck.NegativeExponent
 
-abbrev pub power : ℤ → ℤ → Result ℤ ℕ
+abbrev pub power : ℤ → ℤ → Result ℤ StuckState
 power x y = power_of (wrapped x) (wrapped y)
 
 -- ---- cells
 
 -- an index within a block of n cells
-abbrev pub place_in : ℤ → ℕ → Result ℕ ℕ
-place_in (pos i) n = if nat_lt i n then Ok i else Err 1
-place_in (negsuc i) n = Err 1
+abbrev pub place_in : ℤ → ℕ → Result ℕ StuckState
+place_in (pos i) n = if nat_lt i n then Ok i else Err stuck.OutsideBlock
+place_in (negsuc i) n = Err stuck.OutsideBlock
 
 -- `then` of a value, unless stuck
-abbrev pub and_then : {A B : Type 0} → Result A ℕ → (A → Result B ℕ) → Result B ℕ
+abbrev pub and_then : {A B : Type 0} → Result A StuckState → (A → Result B StuckState) → Result B StuckState
 and_then (Ok a) next = next a
 and_then (Err why) next = Err why
 
-abbrev pub ints_of : Cells → Result (List ℤ) ℕ
+abbrev pub ints_of : Cells → Result (List ℤ) StuckState
 ints_of (Ints cells) = Ok cells
-ints_of (Texts cells) = Err 2
+ints_of (Texts cells) = Err stuck.NoBlock
 
-abbrev pub texts_of : Cells → Result (List (List ℕ)) ℕ
-texts_of (Ints cells) = Err 2
+abbrev pub texts_of : Cells → Result (List (List ℕ)) StuckState
+texts_of (Ints cells) = Err stuck.NoBlock
 texts_of (Texts cells) = Ok cells
 
 -- the integers of a living block, and its texts
-abbrev pub ints_at : List Block → Option ℕ → Result (List ℤ) ℕ
+abbrev pub ints_at : List Block → Option ℕ → Result (List ℤ) StuckState
 ints_at blocks reference = and_then (cells_at blocks reference) ints_of
 
-abbrev pub texts_at : List Block → Option ℕ → Result (List (List ℕ)) ℕ
+abbrev pub texts_at : List Block → Option ℕ → Result (List (List ℕ)) StuckState
 texts_at blocks reference = and_then (cells_at blocks reference) texts_of
 
 -- `b[A]` and `c[A]`
-abbrev pub int_cell : List ℤ → ℤ → Result ℤ ℕ
+abbrev pub int_cell : List ℤ → ℤ → Result ℤ StuckState
 int_cell cells i = and_then (place_in i (length cells)) (λ place. Ok (number_at cells place))
 
-abbrev pub text_cell : List (List ℕ) → ℤ → Result (List ℕ) ℕ
+abbrev pub text_cell : List (List ℕ) → ℤ → Result (List ℕ) StuckState
 text_cell cells i = and_then (place_in i (length cells)) (λ place. Ok (text_at cells place))
 
 -- the cells after a store
-abbrev pub stored : {A : Type 0} → List A → ℤ → A → Result (List A) ℕ
+abbrev pub stored : {A : Type 0} → List A → ℤ → A → Result (List A) StuckState
 stored cells i value = and_then (place_in i (length cells)) (λ place. Ok (set cells place value))
 
 abbrev pub cell_count : Cells → ℕ
@@ -138,58 +139,58 @@ cell_count (Texts cells) = length cells
 abbrev pub largest : ℕ
 largest = 2 ^ 24
 
-abbrev pub size_within : ℕ → ℤ → Result ℕ ℕ
-size_within limit (pos n) = if nat_le n limit then Ok n else Err 5
-size_within limit (negsuc n) = Err 5
+abbrev pub size_within : ℕ → ℤ → Result ℕ StuckState
+size_within limit (pos n) = if nat_le n limit then Ok n else Err stuck.BlockSize
+size_within limit (negsuc n) = Err stuck.BlockSize
 
 -- so many more cells, zeros or empty texts
 abbrev pub more_cells : Cells → ℕ → Cells
 more_cells (Ints cells) n = Ints (cells ++ replicate n (pos 0))
 more_cells (Texts cells) n = Texts (cells ++ replicate n [])
 
-abbrev pub grown : Cells → ℤ → Result Cells ℕ
+abbrev pub grown : Cells → ℤ → Result Cells StuckState
 grown cells count = and_then (size_within (largest - cell_count cells) count) (λ n. Ok (more_cells cells n))
 
 -- new cells
-abbrev pub zeros : ℤ → Result Cells ℕ
+abbrev pub zeros : ℤ → Result Cells StuckState
 zeros count = and_then (size_within largest count) (λ n. Ok (Ints (replicate n (pos 0))))
 
-abbrev pub texts_of_length : ℤ → ℤ → Result Cells ℕ
+abbrev pub texts_of_length : ℤ → ℤ → Result Cells StuckState
 texts_of_length count size = and_then (size_within largest count) (λ n. and_then (size_within 255 size) (λ m. Ok (Texts (replicate n (replicate m 32)))))
 
 -- ---- texts
 
 -- the byte of a text of one byte
-abbrev pub code_of : List ℕ → Result ℤ ℕ
-code_of [] = Err 6
+abbrev pub code_of : List ℕ → Result ℤ StuckState
+code_of [] = Err stuck.OutsideText
 code_of (c ∷ []) = Ok (pos c)
-code_of (c ∷ d ∷ more) = Err 6
+code_of (c ∷ d ∷ more) = Err stuck.OutsideText
 
-abbrev pub char_of : ℤ → Result (List ℕ) ℕ
-char_of (pos n) = if nat_lt n 256 then Ok (n ∷ []) else Err 7
-char_of (negsuc n) = Err 7
+abbrev pub char_of : ℤ → Result (List ℕ) StuckState
+char_of (pos n) = if nat_lt n 256 then Ok (n ∷ []) else Err stuck.NoByte
+char_of (negsuc n) = Err stuck.NoByte
 
 -- the bytes from one place to another: none where the first is greater, else both are within the text
-abbrev pub sub_within : List ℕ → ℤ → ℤ → Result (List ℕ) ℕ
-sub_within text (pos from) (pos to) = if nat_le 1 from && nat_le to (length text) then Ok (part_of text from to) else Err 6
-sub_within text (pos from) (negsuc to) = Err 6
-sub_within text (negsuc from) to = Err 6
+abbrev pub sub_within : List ℕ → ℤ → ℤ → Result (List ℕ) StuckState
+sub_within text (pos from) (pos to) = if nat_le 1 from && nat_le to (length text) then Ok (part_of text from to) else Err stuck.OutsideText
+sub_within text (pos from) (negsuc to) = Err stuck.OutsideText
+sub_within text (negsuc from) to = Err stuck.OutsideText
 
-abbrev pub sub : List ℕ → ℤ → ℤ → Result (List ℕ) ℕ
+abbrev pub sub : List ℕ → ℤ → ℤ → Result (List ℕ) StuckState
 sub text from to = if int_lt to from then Ok [] else sub_within text from to
 
 -- the bytes from a place on replaced: they are within the text, or there are none
-abbrev pub replaced_within : List ℕ → ℤ → List ℕ → Result (List ℕ) ℕ
-replaced_within text (pos from) new = if nat_le 1 from && nat_le (from - 1 + length new) (length text) then Ok (over text from new) else Err 6
-replaced_within text (negsuc from) new = Err 6
+abbrev pub replaced_within : List ℕ → ℤ → List ℕ → Result (List ℕ) StuckState
+replaced_within text (pos from) new = if nat_le 1 from && nat_le (from - 1 + length new) (length text) then Ok (over text from new) else Err stuck.OutsideText
+replaced_within text (negsuc from) new = Err stuck.OutsideText
 
-abbrev pub replaced : List ℕ → ℤ → List ℕ → Result (List ℕ) ℕ
+abbrev pub replaced : List ℕ → ℤ → List ℕ → Result (List ℕ) StuckState
 replaced text from [] = Ok text
 replaced text from (c ∷ cs) = replaced_within text from (c ∷ cs)
 
-abbrev pub fitted : List ℕ → ℤ → Result (List ℕ) ℕ
+abbrev pub fitted : List ℕ → ℤ → Result (List ℕ) StuckState
 fitted text (pos n) = Ok (fit n text)
-fitted text (negsuc n) = Err 6
+fitted text (negsuc n) = Err stuck.OutsideText
 
 -- ---- input
 
@@ -204,19 +205,19 @@ is_left [] = false
 is_left (c ∷ cs) = true
 
 -- 1 where the block of a reference lives
-abbrev pub is_live : Result Cells ℕ → Bool
+abbrev pub is_live : Result Cells StuckState → Bool
 is_live (Ok cells) = true
 is_live (Err why) = false
 
 -- ---- the right sides of `iN = ..;` and `sN = ..;`
 
 -- f_take, which takes from the input, is a row of its own in the machine; what is given here is the integer
-abbrev pub taken : Reading → Result ℤ ℕ
+abbrev pub taken : Reading → Result ℤ StuckState
 taken (Integer value used) = Ok value
-taken NoMore = Err 8
-taken NoInteger = Err 8
+taken NoMore = Err stuck.NoInteger
+taken NoInteger = Err stuck.NoInteger
 
-unfoldable pub int_value : State → IntValue → Result ℤ ℕ
+unfoldable pub int_value : State → IntValue → Result ℤ StuckState
 int_value s (int.Atom a) = Ok (atom_of s a)
 int_value s (int.Operation a op b) = operation op (atom_of s a) (atom_of s b)
 int_value s (int.Cell n a) = and_then (ints_at s.blocks (block_at s.now.int_blocks n)) (λ cells. int_cell cells (atom_of s a))
@@ -234,7 +235,7 @@ int_value s int.More = Ok (truth (is_left s.input))
 int_value s (int.Look a) = Ok (look_of (next_value (holds (atom_of s a)) s.input))
 int_value s (int.Take a) = taken (next_value (holds (atom_of s a)) s.input)
 
-unfoldable pub text_value : State → TextValue → Result (List ℕ) ℕ
+unfoldable pub text_value : State → TextValue → Result (List ℕ) StuckState
 text_value s (words.Atom t) = Ok (text_of s t)
 text_value s (words.Cell n a) = and_then (texts_at s.blocks (block_at s.now.text_blocks n)) (λ cells. text_cell cells (atom_of s a))
 text_value s (words.Join t u) = Ok (text_of s t ++ text_of s u)

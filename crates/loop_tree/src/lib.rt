@@ -12,6 +12,7 @@ mod program;
 mod row;
 mod row_text;
 mod stack;
+mod stuck;
 mod text;
 mod tree;
 
@@ -22,4 +23,5 @@ pub use laws::{
 pub use program::LoopProgram;
 pub use row::{BlockRow, ControlRow, IntValue, RecordRow, Row, TextValue};
 pub use stack::Stack;
+pub use stuck::StuckState;
 pub use tree::{CodeLine, Function, Stmt};
