@@ -9,12 +9,6 @@ mod calls;
 #[cfg(test)]
 mod command_lines;
 #[cfg(test)]
-mod loop_machines;
-#[cfg(test)]
-mod loop_texts;
-#[cfg(test)]
 mod reads;
 #[cfg(test)]
 mod runs;
-#[cfg(test)]
-mod values;
