@@ -8,28 +8,28 @@ pub data Reading : Type 0 where
   NoMore : Reading
   NoInteger : Reading
 
--- a blank, a tab, a carriage return, or the line feed that ends a record
-abbrev pub is_blank : ℕ → Bool
-is_blank c = (c == 32) || (c == 9) || (c == 13) || (c == 10)
+-- whitespace: a blank, a tab, a carriage return, or the line feed that ends a record
+abbrev pub is_whitespace : ℕ → Bool
+is_whitespace c = (c == 32) || (c == 9) || (c == 13) || (c == 10)
 
 -- what ends a value: the same, or a comma
 abbrev pub is_separator : ℕ → Bool
-is_separator c = is_blank c || (c == 44)
+is_separator c = is_whitespace c || (c == 44)
 
--- what stands behind the blanks at the front
-abbrev pub past_blanks : List ℕ → List ℕ
-past_blanks [] = []
-past_blanks (c ∷ cs) = if is_blank c then past_blanks cs else (c ∷ cs)
+-- what stands behind the whitespace at the front
+abbrev pub past_whitespace : List ℕ → List ℕ
+past_whitespace [] = []
+past_whitespace (c ∷ cs) = if is_whitespace c then past_whitespace cs else (c ∷ cs)
 
 -- what stands behind a comma at the front, if there is one
 abbrev pub past_comma : List ℕ → List ℕ
 past_comma [] = []
 past_comma (c ∷ cs) = if c == 44 then cs else (c ∷ cs)
 
--- what stands behind the gap between two values: blanks, and where a comma may stand, one comma at most among them
+-- what stands behind the gap between two values: whitespace, and where a comma may stand, one comma at most in it
 abbrev pub past_gap : Bool → List ℕ → List ℕ
-past_gap false text = past_blanks text
-past_gap true text = past_blanks (past_comma (past_blanks text))
+past_gap false text = past_whitespace text
+past_gap true text = past_whitespace (past_comma (past_whitespace text))
 
 -- the bytes up to the next separator or the end
 abbrev pub word_of : List ℕ → List ℕ

@@ -1,11 +1,11 @@
 -- What several calls of a sink do together, for the crates above. Beside these, std's `KnownBytes` has `Appends-trans`,
 -- `Consumes-trans` and `Consumes-all`.
-use Rattle.std.proofs.Common.{◌≡◌, ℕ, ◌+◌, min, List, [], ◌++◌, Some, None, length, take, take_all, sym, ap, subst, ◌∙◌, arith, append-nil}
+use Rattle.std.proofs.Common.{ℕ, ◌+◌, min, List, [], ◌++◌, Some, None, length, take, take_all, sym, subst, ◌∙◌, arith, append-nil}
 use Rattle.std.specs.Prelude.{Option}
 use Rattle.std.proofs.Math.Seq.{take-append-add}
 use Rattle.std.proofs.lemmas.List.{take-append-le, take_min}
 use Rattle.std.specs.Io.KnownBytes.{Appends, Keeps}
-use Rattle.std.proofs.KnownBytes.{Appends-nil, Appends-trans}
+use Rattle.std.proofs.KnownBytes.{Appends-trans}
 use Rattle.io_edge.specs.Known.{AppendsFront}
 
 -- a call that leaves the bytes appended nothing

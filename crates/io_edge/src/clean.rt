@@ -6,7 +6,7 @@ use std::alloc::Global;
 use std::marker::Model;
 
 /// One text, which it gives for every name.
-#[derive(Debug, Drop)]
+#[derive(Drop)]
 pub struct CleanShelf {
     text: Vec<u8>,
 }
@@ -57,7 +57,7 @@ impl Shelf for CleanShelf {
 }
 
 /// A source in memory that gives as many bytes as there is room for.
-#[derive(Debug, Drop)]
+#[derive(Drop)]
 pub struct CleanSource {
     bytes: Vec<u8>,
     at: usize,
@@ -107,7 +107,7 @@ impl Source for CleanSource {
 }
 
 /// A sink in memory.
-#[derive(Debug, Drop)]
+#[derive(Drop)]
 pub struct CleanSink {
     written: Vec<u8>,
 }

@@ -9,8 +9,6 @@ mod memory_shelf;
 mod memory_sink;
 mod memory_source;
 mod streams;
-#[cfg(test)]
-mod tests;
 mod traits;
 
 pub use clean::{CleanShelf, CleanSink, CleanSource};

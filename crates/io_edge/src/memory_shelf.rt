@@ -1,3 +1,4 @@
+//! Files in memory, with loads that fail where they are told to.
 ghost use Rattle.std.specs.Prelude.{◌≡◌, ◌≤◌, ◌++◌, [], MatchOption, IsTrue, IsFalse, None, Some, OnOk, OnErr, IfSome, IsErrOf};
 ghost use Rattle.io_edge.specs.Causes.{one_more};
 ghost use Rattle.io_edge.specs.Memory.{file_named, loads_next};
@@ -8,7 +9,7 @@ use std::alloc::Global;
 use std::marker::Model;
 
 /// Named files in memory, some of whose loads fail.
-#[derive(Debug, Drop)]
+#[derive(Drop)]
 pub struct MemoryShelf {
     files: Vec<(String, Vec<u8>)>,
     failing: Vec<u64>,

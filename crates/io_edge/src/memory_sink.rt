@@ -1,3 +1,4 @@
+//! Output in memory, with calls that fail where they are told to.
 ghost use Rattle.std.specs.Prelude.{◌≡◌, ◌≤◌, [], ◌++◌, take, IsTrue, IsFalse, OnOk, IsErrOf, vec_items};
 ghost use Rattle.io_edge.specs.Causes.{one_more};
 ghost use Rattle.io_edge.specs.Memory.{fails_next};
@@ -7,7 +8,7 @@ use std::alloc::Global;
 use std::marker::Model;
 
 /// A sink in memory, some of whose calls fail.
-#[derive(Debug, Drop)]
+#[derive(Drop)]
 pub struct MemorySink {
     written: Vec<u8>,
     passed: usize,

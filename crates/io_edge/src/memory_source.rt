@@ -1,3 +1,4 @@
+//! Input in memory, given in pieces, with calls that fail where they are told to.
 ghost use Rattle.std.specs.Prelude.{◌≡◌, ◌≤◌, ◌↔◌, ◌++◌, take, drop, length, IsTrue, IsErr, IfOk, OnErr};
 ghost use Rattle.io_edge.specs.Causes.{one_more};
 ghost use Rattle.io_edge.specs.Memory.{fails_next, given_next};
@@ -6,7 +7,7 @@ use crate::traits::{Failed, Source};
 use std::marker::Model;
 
 /// A source in memory that gives its bytes in pieces, and some of whose calls fail.
-#[derive(Debug, Drop)]
+#[derive(Drop)]
 pub struct MemorySource {
     bytes: Vec<u8>,
     at: usize,
@@ -68,7 +69,7 @@ impl Source for MemorySource {
         ensures moved { IfOk result (λ n. into.new ≡ take n self.old.left ++ drop n into.old) }
         ensures ok { IfOk result (λ n. self.new ≡ record self.old { left = drop n self.old.left; calls = one_more self.old.calls }) }
         ensures failed { OnErr result (self.new ≡ record self.old { calls = one_more self.old.calls; faults = one_more self.old.faults }) }
-        ensures untouched { OnErr result (into.new ≡ into.old) }
+        ensures unchanged { OnErr result (into.new ≡ into.old) }
         ensures later { self.old.faults ≤ self.new.faults }
     {
         self.calls = self.calls.saturating_add(1);

@@ -69,13 +69,17 @@ pub trait Source {
     fn faults(&self) -> u64
         ensures { result ≡ faults self.now };
 
-    /// Moves the next bytes to the front of `into`, and answers how many: none only at the end, or with no room.
+    /// Moves the next bytes to the front of `into`, and answers how many: none only at the end, or with no room. A call
+    /// that fails leaves `into` as it was.
     fn take(&mut self, into: &mut [u8]) -> Result<usize, Failed>
         ensures bound { IfOk result (λ n. n ≤ length into.old) }
         ensures taken { IfOk result (λ n. Consumes (left self.old) (left self.new) (take n into.new)) }
         ensures rest { IfOk result (λ n. drop n into.new ≡ drop n into.old) }
         ensures end { IfOk result (λ n. n ≡ 0 → 0 < length into.old → IsAtEnd (left self.new)) }
+
+        // A call that fails takes no byte, and the buffer is as before.
         ensures untaken { OnErr result (Keeps (left self.old) (left self.new)) }
+        ensures unchanged { OnErr result (into.new ≡ into.old) }
 
         // A failure comes only where the count rose, and a success leaves it.
         ensures later { faults self.old ≤ faults self.new }

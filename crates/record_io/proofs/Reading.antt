@@ -3,7 +3,7 @@ use Rattle.std.proofs.Common.{◌≡◌, ◌⊎◌, inl, inr, ℕ, ℤ, pos, neg
 use Rattle.std.specs.Prelude.{if◌then◌else◌, ◌==◌, nat_le, nat_lt, Option, Some, None}
 use Rattle.std.specs.List.{list_all}
 use Rattle.std.proofs.lemmas.Bool.Decides.{nat_tests}
-use Rattle.a95_base.specs.Input.{Integer, NoMore, NoInteger, is_blank, is_separator, is_digit, past_blanks, past_comma, past_gap, word_of, is_number, number_of, negative_of, positive_of, integer_of, reading_of, reading_at, next_value}
+use Rattle.a95_base.specs.Input.{Integer, NoMore, NoInteger, is_whitespace, is_separator, is_digit, past_whitespace, past_comma, past_gap, word_of, is_number, number_of, negative_of, positive_of, integer_of, reading_of, reading_at, next_value}
 use Rattle.record_io.specs.Grammar.{IsGap, HasSign, Writes, EndsValue, IsNext}
 
 true_false : true ≡ false → ⊥
@@ -17,32 +17,32 @@ both : (a b : Bool) → (a && b) ≡ true → (a ≡ true) × (b ≡ true)
 both true b h = (refl, h)
 both false b h = (h, cc)
 
--- blanks at the front are passed, and nothing else is
-blanks-append : (blanks text : List ℕ) → list_all is_blank blanks ≡ true → past_blanks (blanks ++ text) ≡ past_blanks text
+-- whitespace at the front is passed, and nothing else is
+blanks-append : (blanks text : List ℕ) → list_all is_whitespace blanks ≡ true → past_whitespace (blanks ++ text) ≡ past_whitespace text
 blanks-append [] text h = refl
 blanks-append (c ∷ cs) text h =
-    let parts = both (is_blank c) (list_all is_blank cs) h in
-    ap (λ b. if b then past_blanks (cs ++ text) else (c ∷ (cs ++ text))) parts.0 ∙ blanks-append cs text parts.1
+    let parts = both (is_whitespace c) (list_all is_whitespace cs) h in
+    ap (λ b. if b then past_whitespace (cs ++ text) else (c ∷ (cs ++ text))) parts.0 ∙ blanks-append cs text parts.1
 
-blanks_stop : (c : ℕ) (cs : List ℕ) → is_blank c ≡ false → past_blanks (c ∷ cs) ≡ c ∷ cs
-blanks_stop c cs h = ap (λ b. if b then past_blanks cs else (c ∷ cs)) h
+blanks_stop : (c : ℕ) (cs : List ℕ) → is_whitespace c ≡ false → past_whitespace (c ∷ cs) ≡ c ∷ cs
+blanks_stop c cs h = ap (λ b. if b then past_whitespace cs else (c ∷ cs)) h
 
 record Blanks (text : List ℕ) : Type 0 where
   blanks : List ℕ
-  all : list_all is_blank blanks ≡ true
-  split : text ≡ blanks ++ past_blanks text
+  all : list_all is_whitespace blanks ≡ true
+  split : text ≡ blanks ++ past_whitespace text
 
-blanks_at : (c : ℕ) (cs : List ℕ) (b : Bool) → is_blank c ≡ b → Blanks cs → Blanks (c ∷ cs)
+blanks_at : (c : ℕ) (cs : List ℕ) (b : Bool) → is_whitespace c ≡ b → Blanks cs → Blanks (c ∷ cs)
 blanks_at c cs true e r = record {
   blanks = c ∷ r.blanks;
-  all = ap (λ b. b && list_all is_blank r.blanks) e ∙ r.all;
-  split = ap (λ l. c ∷ l) r.split ∙ ap (λ b. (c ∷ r.blanks) ++ (if b then past_blanks cs else (c ∷ cs))) (sym e);
+  all = ap (λ b. b && list_all is_whitespace r.blanks) e ∙ r.all;
+  split = ap (λ l. c ∷ l) r.split ∙ ap (λ b. (c ∷ r.blanks) ++ (if b then past_whitespace cs else (c ∷ cs))) (sym e);
 }
 blanks_at c cs false e r = record { blanks = []; all = refl; split = sym (blanks_stop c cs e) }
 
 blanks_of : (text : List ℕ) → Blanks text
 blanks_of [] = record { blanks = []; all = refl; split = refl }
-blanks_of (c ∷ cs) = blanks_at c cs (is_blank c) refl (blanks_of cs)
+blanks_of (c ∷ cs) = blanks_at c cs (is_whitespace c) refl (blanks_of cs)
 
 -- a text whose front is no gap
 abbrev Starts : List ℕ → Type 0
@@ -53,28 +53,28 @@ either : (a b : Bool) → (a || b) ≡ false → (a ≡ false) × (b ≡ false)
 either true b h = absurd (true_false h)
 either false b h = (refl, h)
 
-starts_blanks : (text : List ℕ) → Starts text → past_blanks text ≡ text
+starts_blanks : (text : List ℕ) → Starts text → past_whitespace text ≡ text
 starts_blanks [] h = refl
-starts_blanks (c ∷ cs) h = blanks_stop c cs (either (is_blank c) (c == 44) h).0
+starts_blanks (c ∷ cs) h = blanks_stop c cs (either (is_whitespace c) (c == 44) h).0
 
 starts_comma : (text : List ℕ) → Starts text → past_comma text ≡ text
 starts_comma [] h = refl
-starts_comma (c ∷ cs) h = ap (λ b. if b then cs else (c ∷ cs)) (either (is_blank c) (c == 44) h).1
+starts_comma (c ∷ cs) h = ap (λ b. if b then cs else (c ∷ cs)) (either (is_whitespace c) (c == 44) h).1
 
 -- a gap in front of a text that begins none is passed, and that alone
 pub gap-append : (comma : Bool) (gap text : List ℕ) → IsGap comma gap → Starts text → past_gap comma (gap ++ text) ≡ text
 gap-append false gap text (inl blanks) s = blanks-append gap text blanks ∙ starts_blanks text s
 gap-append true gap text (inl blanks) s =
-    ap (λ l. past_blanks (past_comma l)) (blanks-append gap text blanks ∙ starts_blanks text s)
-    ∙ ap past_blanks (starts_comma text s) ∙ starts_blanks text s
+    ap (λ l. past_whitespace (past_comma l)) (blanks-append gap text blanks ∙ starts_blanks text s)
+    ∙ ap past_whitespace (starts_comma text s) ∙ starts_blanks text s
 gap-append false gap text (inr g) s = absurd (true_false (sym g.0))
 gap-append true gap text (inr g) s =
     let around = g.1 in
     let before = around.0 in
     let after = around.1 in
     let whole : gap ++ text ≡ before ++ (44 ∷ (after ++ text)) = ap (λ l. l ++ text) around.4 ∙ append_assoc before (44 ∷ after) text in
-    ap (λ l. past_blanks (past_comma (past_blanks l))) whole
-    ∙ ap (λ l. past_blanks (past_comma l)) (blanks-append before (44 ∷ (after ++ text)) around.2)
+    ap (λ l. past_whitespace (past_comma (past_whitespace l))) whole
+    ∙ ap (λ l. past_whitespace (past_comma l)) (blanks-append before (44 ∷ (after ++ text)) around.2)
     ∙ blanks-append after text around.3 ∙ starts_blanks text s
 
 -- a text is a gap and the rest
@@ -83,17 +83,17 @@ pub record Parted (comma : Bool) (text rest : List ℕ) : Type 0 where
   pub is : IsGap comma gap
   pub split : text ≡ gap ++ rest
 
-blanks_again_at : (c : ℕ) (cs : List ℕ) (b : Bool) → is_blank c ≡ b → past_blanks (past_blanks cs) ≡ past_blanks cs → past_blanks (past_blanks (c ∷ cs)) ≡ past_blanks (c ∷ cs)
+blanks_again_at : (c : ℕ) (cs : List ℕ) (b : Bool) → is_whitespace c ≡ b → past_whitespace (past_whitespace cs) ≡ past_whitespace cs → past_whitespace (past_whitespace (c ∷ cs)) ≡ past_whitespace (c ∷ cs)
 blanks_again_at c cs true e h =
-    let here : past_blanks (c ∷ cs) ≡ past_blanks cs = ap (λ b. if b then past_blanks cs else (c ∷ cs)) e in
-    ap past_blanks here ∙ h ∙ sym here
-blanks_again_at c cs false e h = ap past_blanks (blanks_stop c cs e)
+    let here : past_whitespace (c ∷ cs) ≡ past_whitespace cs = ap (λ b. if b then past_whitespace cs else (c ∷ cs)) e in
+    ap past_whitespace here ∙ h ∙ sym here
+blanks_again_at c cs false e h = ap past_whitespace (blanks_stop c cs e)
 
-blanks_again : (text : List ℕ) → past_blanks (past_blanks text) ≡ past_blanks text
+blanks_again : (text : List ℕ) → past_whitespace (past_whitespace text) ≡ past_whitespace text
 blanks_again [] = refl
-blanks_again (c ∷ cs) = blanks_again_at c cs (is_blank c) refl (blanks_again cs)
+blanks_again (c ∷ cs) = blanks_again_at c cs (is_whitespace c) refl (blanks_again cs)
 
-comma_at : (blanks : List ℕ) (c : ℕ) (cs : List ℕ) (b : Bool) → (c == 44) ≡ b → list_all is_blank blanks ≡ true → past_blanks (c ∷ cs) ≡ c ∷ cs → Parted true (blanks ++ (c ∷ cs)) (past_blanks (past_comma (c ∷ cs)))
+comma_at : (blanks : List ℕ) (c : ℕ) (cs : List ℕ) (b : Bool) → (c == 44) ≡ b → list_all is_whitespace blanks ≡ true → past_whitespace (c ∷ cs) ≡ c ∷ cs → Parted true (blanks ++ (c ∷ cs)) (past_whitespace (past_comma (c ∷ cs)))
 comma_at blanks c cs true e all stop =
     let behind = blanks_of cs in
     let comma : c ≡ 44 = grind (arith, nat_tests) in
@@ -103,15 +103,15 @@ comma_at blanks c cs true e all stop =
       is = inr (refl, (blanks, behind.blanks, all, behind.all, refl));
       split =
           ap (λ d. blanks ++ (d ∷ cs)) comma ∙ ap (λ l. blanks ++ (44 ∷ l)) behind.split
-          ∙ sym (append_assoc blanks (44 ∷ behind.blanks) (past_blanks cs)) ∙ ap (λ l. (blanks ++ (44 ∷ behind.blanks)) ++ past_blanks l) (sym passed);
+          ∙ sym (append_assoc blanks (44 ∷ behind.blanks) (past_whitespace cs)) ∙ ap (λ l. (blanks ++ (44 ∷ behind.blanks)) ++ past_whitespace l) (sym passed);
     }
 comma_at blanks c cs false e all stop = record {
   gap = blanks;
   is = inl all;
-  split = ap (λ l. blanks ++ l) (sym stop ∙ ap past_blanks (sym (ap (λ b. if b then cs else (c ∷ cs)) e)));
+  split = ap (λ l. blanks ++ l) (sym stop ∙ ap past_whitespace (sym (ap (λ b. if b then cs else (c ∷ cs)) e)));
 }
 
-comma_of : (blanks rest : List ℕ) → list_all is_blank blanks ≡ true → past_blanks rest ≡ rest → Parted true (blanks ++ rest) (past_blanks (past_comma rest))
+comma_of : (blanks rest : List ℕ) → list_all is_whitespace blanks ≡ true → past_whitespace rest ≡ rest → Parted true (blanks ++ rest) (past_whitespace (past_comma rest))
 comma_of blanks [] all stop = record { gap = blanks; is = inl all; split = refl }
 comma_of blanks (c ∷ cs) all stop = comma_at blanks c cs (c == 44) refl all stop
 
@@ -119,7 +119,7 @@ pub gap_of : (comma : Bool) (text : List ℕ) → Parted comma text (past_gap co
 gap_of false text = let front = blanks_of text in record { gap = front.blanks; is = inl front.all; split = front.split }
 gap_of true text =
     let front = blanks_of text in
-    let parted = comma_of front.blanks (past_blanks text) front.all (blanks_again text) in
+    let parted = comma_of front.blanks (past_whitespace text) front.all (blanks_again text) in
     record { gap = parted.gap; is = parted.is; split = front.split ∙ parted.split }
 
 -- a word, up to what ends a value

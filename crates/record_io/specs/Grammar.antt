@@ -1,13 +1,13 @@
 -- How an INTEGER stands in the input, as a grammar. The law `input_rule` says that the input rule finds exactly these.
 use Rattle.std.specs.Prelude.{◌≡◌, ◌⊎◌, ℕ, ℤ, pos, neg_ℤ, ◌+◌, ◌^◌, ◌<◌, ◌≤◌, Bool, List, [], ◌∷◌, ◌++◌, length, IsTrue}
 use Rattle.std.specs.List.{list_all}
-use Rattle.a95_base.specs.Input.{is_blank, is_separator, is_number, number_of}
+use Rattle.a95_base.specs.Input.{is_whitespace, is_separator, is_number, number_of}
 
--- what parts two values: blanks, and where one may stand, a comma among them
+-- what parts two values: whitespace, and where one may stand, a comma in it
 abbrev pub IsGap : Bool → List ℕ → Type 0
 IsGap comma gap =
-    IsTrue (list_all is_blank gap)
-    ⊎ (IsTrue comma × ((before after : List ℕ) × IsTrue (list_all is_blank before) × IsTrue (list_all is_blank after) × (gap ≡ before ++ 44 ∷ after)))
+    IsTrue (list_all is_whitespace gap)
+    ⊎ (IsTrue comma × ((before after : List ℕ) × IsTrue (list_all is_whitespace before) × IsTrue (list_all is_whitespace after) × (gap ≡ before ++ 44 ∷ after)))
 
 -- the value of a number behind a sign or none, where it has 32 bits
 abbrev pub HasSign : List ℕ → ℕ → ℤ → Type 0

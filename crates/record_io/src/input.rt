@@ -1,9 +1,10 @@
+//! What READ finds next in the bytes of the input that are left.
 ghost use Rattle.std.specs.Prelude.{◌≡◌, ◌==◌, ◌≤◌, ◌^◌, min, length, position, true, false, MatchOption};
-ghost use Rattle.a95_base.specs.Input.{is_blank, is_separator, past_blanks, past_comma, past_gap, word_of, is_number, number_of, positive_of, integer_of, next_value, record_length};
+ghost use Rattle.a95_base.specs.Input.{is_whitespace, is_separator, past_whitespace, past_comma, past_gap, word_of, is_number, number_of, positive_of, integer_of, next_value, record_length};
 ghost use Rattle.record_io.specs.Looked.{reading};
 
 /// What stands next in the input.
-#[derive(Clone, Copy, Debug, PartialEq, Eq)]
+#[derive(Clone, Copy, PartialEq, Eq)]
 pub enum Looked {
     /// An INTEGER, and the number of bytes through its last digit.
     Value { value: i32, used: usize },
@@ -45,8 +46,8 @@ fn line_feed(rest: &[u8]) -> Option<usize>
     rest.iter().position(|byte| *byte == b'\n')
 }
 
-fn is_blank_byte(byte: u8) -> bool
-    ensures { result ≡ is_blank byte }
+fn is_whitespace_byte(byte: u8) -> bool
+    ensures { result ≡ is_whitespace byte }
 {
     byte == b' ' || byte == b'\t' || byte == b'\r' || byte == b'\n'
 }
@@ -54,7 +55,7 @@ fn is_blank_byte(byte: u8) -> bool
 fn is_separator_byte(byte: u8) -> bool
     ensures { result ≡ is_separator byte }
 {
-    is_blank_byte(byte) || byte == b','
+    is_whitespace_byte(byte) || byte == b','
 }
 
 // The text behind what may stand before a value.
@@ -63,9 +64,9 @@ fn skip_gap(text: &[u8], comma: bool) -> &[u8]
     ensures within { length result.now ≤ length text.now }
 {
     if comma {
-        skip_blanks(skip_comma(skip_blanks(text)))
+        skip_whitespace(skip_comma(skip_whitespace(text)))
     } else {
-        skip_blanks(text)
+        skip_whitespace(text)
     }
 }
 
@@ -79,13 +80,13 @@ fn skip_comma(text: &[u8]) -> &[u8]
     }
 }
 
-fn skip_blanks(text: &[u8]) -> &[u8]
-    ensures blanks { result.now ≡ past_blanks text.now }
+fn skip_whitespace(text: &[u8]) -> &[u8]
+    ensures passed { result.now ≡ past_whitespace text.now }
     ensures within { length result.now ≤ length text.now }
 {
     let mut rest = text;
     while let [first, after @ ..] = rest {
-        if !is_blank_byte(*first) {
+        if !is_whitespace_byte(*first) {
             break;
         }
         rest = after;

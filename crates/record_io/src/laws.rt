@@ -1,3 +1,4 @@
+//! The input rule and the grammar of an INTEGER in the input are one.
 ghost use Rattle.std.specs.Prelude.{◌≡◌, ◌↔◌, ℕ, ℤ, Bool, List};
 ghost use Rattle.a95_base.specs.Input.{Integer, NoMore, next_value};
 ghost use Rattle.record_io.specs.Grammar.{IsGap, IsNext};

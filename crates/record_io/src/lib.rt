@@ -6,8 +6,6 @@
 mod input;
 mod laws;
 mod record;
-#[cfg(test)]
-mod tests;
 
 pub use input::{Looked, after_record, look};
 pub use laws::input_rule;

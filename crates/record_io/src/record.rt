@@ -1,3 +1,4 @@
+//! The text of a record, gathered value by value.
 ghost use Rattle.std.specs.Prelude.{◌≡◌, [], ◌∷◌, ◌++◌, IfOk, OnOk, OnErr};
 ghost use Rattle.std.specs.Io.{StartsWith};
 ghost use Rattle.a95_base.specs.Record.{is_text, record_text};
@@ -9,7 +10,7 @@ use std::alloc::{AllocError, Global};
 use std::marker::Model;
 
 /// The values of a record that is being gathered, and its text. Contracts see the list of the values.
-#[derive(Debug, Drop)]
+#[derive(Drop)]
 pub struct Record {
     alloc: Global,
     values: Vec<Scalar>,

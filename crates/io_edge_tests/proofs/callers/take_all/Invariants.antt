@@ -1,7 +1,7 @@
 use Rattle.std.proofs.Common.{◌≡◌, ◌+◌, ◌-◌}
 use Rattle.std.specs.Prelude.{vec_len}
 use Rattle.std.specs.Io.KnownBytes.{Consumes}
-use Rattle.io_edge.proofs.tests.take_all.Given as goal
+use Rattle.io_edge_tests.proofs.callers.take_all.Given as goal
 
 -- what has come is what the source lost
 abbrev pub invariant-loop-piece : goal.invariant-loop-piece

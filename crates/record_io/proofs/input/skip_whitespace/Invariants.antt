@@ -1,10 +1,10 @@
 use Rattle.std.proofs.Common.{◌≡◌, ◌≤◌, length}
-use Rattle.a95_base.specs.Input.{past_blanks}
-use Rattle.record_io.proofs.input.skip_blanks.Given as goal
+use Rattle.a95_base.specs.Input.{past_whitespace}
+use Rattle.record_io.proofs.input.skip_whitespace.Given as goal
 
 abbrev pub invariant-loop-rest : goal.invariant-loop-rest
 invariant-loop-rest l = record {
-  blanks : past_blanks l.rest ≡ past_blanks l.text;
+  blanks : past_whitespace l.rest ≡ past_whitespace l.text;
   within : length l.rest ≤ length l.text;
 }
 
