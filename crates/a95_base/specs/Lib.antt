@@ -1,6 +1,12 @@
 pub mod Fault
 pub mod Input
 pub mod Integer
+pub mod IntegerLaws
+pub mod Limits
 pub mod Lists
 pub mod Outcome
 pub mod Record
+pub mod Rules
+pub mod StepLaws
+pub mod Steps
+pub mod Text

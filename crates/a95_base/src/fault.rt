@@ -1,3 +1,4 @@
+//! Runtime faults. Their numbers stand in `specs/Fault.antt`.
 ghost use Rattle.std.specs.Prelude.{◌≡◌};
 ghost use Rattle.a95_base.specs.Fault.{fault_number, kind_of};
 

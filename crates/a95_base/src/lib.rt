@@ -1,16 +1,24 @@
-//! What every other crate of `f95a` stands on: source lines, numbers of refusal rules, runtime faults, owned byte
-//! texts, scalar values, and arithmetic of the 32-bit INTEGER. The meaning of a number stands in `specs/Integer.antt`,
-//! that of a printed record in `specs/Record.antt`.
+//! What every other crate of `f95a` stands on: source lines, rules of refusal, runtime faults, owned texts of bytes, scalar
+//! values, arithmetic of the 32-bit INTEGER and the functions on CHARACTER values, limits, and steps on a state. Meanings stand
+//! in `specs/`: `Integer` and `Text` for the language's scalars, `Record` and `Input` for PRINT and READ, `Steps` for what is
+//! done to a state, `Lists` for the words on lists.
 #![tactic(auto)]
 
 mod bytes;
 mod fault;
 mod integer;
+mod laws;
+mod limits;
+mod rules;
 mod scalar;
 mod source;
+mod text;
 
 pub use bytes::Bytes;
 pub use fault::FaultKind;
-pub use integer::wrap32;
+pub use integer::{divide, modulo, power, remainder, wrap32};
+pub use laws::{integer_laws, step_laws};
+pub use limits::{GREATEST_RANK, LONGEST_TEXT, LONGEST_WORD, MOST_ELEMENTS};
 pub use scalar::{Kind, Scalar};
 pub use source::{Line, Memory, PhaseError, Rule};
+pub use text::{compare_padded, fit};

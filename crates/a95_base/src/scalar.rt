@@ -1,3 +1,5 @@
+//! The types and the values of the language.
+
 use crate::bytes::Bytes;
 
 /// The three types of the language.

@@ -1,7 +1,9 @@
+//! Lines and rules, and what a reader's phase answers where it gives no result.
 ghost use Rattle.std.specs.Prelude.{◌≡◌};
 ghost use Rattle.a95_base.specs.declared.source.PhaseError.TheVariants.{Memory};
 
 use std::alloc::{AllocError, AllocFailed};
+use thiserror::Error;
 
 /// An allocation was refused.
 #[derive(Clone, Copy, Debug, PartialEq, Eq)]
@@ -11,15 +13,17 @@ pub struct Memory;
 #[derive(Clone, Copy, Debug, PartialEq, Eq, PartialOrd, Ord)]
 pub struct Line(pub u32);
 
-/// The number of a rule of refusal: 19 is P19.
+/// A rule of refusal, by the number that the product prints: 19 is P19. `src/rules.rt` has the rules by name.
 #[derive(Clone, Copy, Debug, PartialEq, Eq, PartialOrd, Ord)]
 pub struct Rule(pub u8);
 
 /// What a phase of the reader answers where it gives no result.
-#[derive(Clone, Copy, Debug, PartialEq, Eq)]
+#[derive(Clone, Copy, Debug, PartialEq, Eq, Error)]
 pub enum PhaseError {
     /// The least line, and on it the least rule, that the source breaks in this phase.
+    #[error("line {}, rule P{}", .line.0, .rule.0)]
     Broken { line: Line, rule: Rule },
+    #[error("no memory")]
     Memory,
 }
 
