@@ -1,6 +1,6 @@
 -- Ring laws of the integers that std lacks. `omega (arith, ints)` does sums; these are for products.
-use Rattle.std.proofs.Common.{◌≡◌, ◌≢◌, ℕ, ℤ, zero, suc, pos, negsuc, ◌*◌, ◌<◌, ◌+ℤ◌, ◌-ℤ◌, ◌*ℤ◌, unsigned_abs, refl, sym, ap, ◌∙◌, subst, arith}
-use Rattle.std.proofs.lemmas.Int.{ints, unsigned_abs-mul}
+use Rattle.std.proofs.Common.{◌≡◌, ℤ, zero, suc, pos, negsuc, ◌+ℤ◌, ◌-ℤ◌, ◌*ℤ◌, refl, sym, ap, ◌∙◌, subst, arith}
+use Rattle.std.proofs.lemmas.Int.{ints}
 use lib.IntN.{neg_ℤ, suc_ℤ, pred_ℤ, suc_ℤ-*ℤ, pred_ℤ-*ℤ, zero-*ℤ}
 
 suc_is : (a : ℤ) → suc_ℤ a ≡ a +ℤ pos 1
@@ -67,41 +67,3 @@ mul_assoc a b c =
     (λ m ih. ap (λ x. x *ℤ c) (one_more m b) ∙ mul_add (m *ℤ b) b c ∙ ap (λ x. x +ℤ b *ℤ c) ih ∙ sym (one_more m (b *ℤ c)))
     (λ m ih. ap (λ x. x *ℤ c) (one_less m b) ∙ mul_sub (m *ℤ b) b c ∙ ap (λ x. x -ℤ b *ℤ c) ih ∙ sym (one_less m (b *ℤ c)))
     a
-
-nothing : (m n : ℕ) → m * n ≡ 0 → 0 < n → m ≡ 0
-nothing zero n e h = refl
-nothing (suc m) n e h = absurd (omega arith)
-
-abs_zero : (a : ℤ) → unsigned_abs a ≡ 0 → a ≡ pos 0
-abs_zero (pos n) e = ap pos e
-abs_zero (negsuc n) e = absurd (omega arith)
-
-abs_some : (a : ℤ) → a ≢ pos 0 → 0 < unsigned_abs a
-abs_some (pos zero) ne = absurd (ne refl)
-abs_some (pos (suc n)) ne = omega arith
-abs_some (negsuc n) ne = omega arith
-
--- a factor other than 0 goes away
-pub mul_cancel : (a b c : ℤ) → c ≢ pos 0 → a *ℤ c ≡ b *ℤ c → a ≡ b
-mul_cancel a b c some same =
-    let gone : (a -ℤ b) *ℤ c ≡ pos 0 = mul_sub a b c ∙ ap (λ x. x -ℤ b *ℤ c) same ∙ self_less (b *ℤ c) in
-    let size : unsigned_abs (a -ℤ b) * unsigned_abs c ≡ 0 = sym (unsigned_abs-mul (a -ℤ b) c) ∙ ap unsigned_abs gone in
-    let apart : a -ℤ b ≡ pos 0 = abs_zero (a -ℤ b) (nothing (unsigned_abs (a -ℤ b)) (unsigned_abs c) size (abs_some c some)) in
-    omega (arith, ints, apart)
-
--- ---- two arithmetic progressions of one stride
-
-moved : (stored read x y : ℤ) → stored +ℤ x ≡ read +ℤ y → stored -ℤ read ≡ y -ℤ x
-moved stored read x y same = omega (arith, ints, same)
-
--- where they meet, the starts are so many strides apart as the turns
-pub whole_between : (stored read stride t u : ℤ) → stored +ℤ t *ℤ stride ≡ read +ℤ u *ℤ stride → stored -ℤ read ≡ (u -ℤ t) *ℤ stride
-whole_between stored read stride t u same = moved stored read (t *ℤ stride) (u *ℤ stride) same ∙ sym (mul_sub u t stride)
-
-after : (u t z : ℤ) → u -ℤ t ≡ z → u ≡ t +ℤ z
-after u t z is = omega (arith, ints, is)
-
--- where the starts are z strides apart, they meet only in turns that are z apart
-pub turns_between : (stored read stride t u z : ℤ) → stride ≢ pos 0 → stored -ℤ read ≡ z *ℤ stride → stored +ℤ t *ℤ stride ≡ read +ℤ u *ℤ stride → u ≡ t +ℤ z
-turns_between stored read stride t u z some apart same =
-    after u t z (mul_cancel (u -ℤ t) z stride some (sym (whole_between stored read stride t u same) ∙ apart))

@@ -4,17 +4,14 @@ use Rattle.std.specs.Prelude.{negsuc, neg_ℤ, unsigned_abs, FitsSigned}
 use mir.Val.{sel}
 use Rattle.std.proofs.lemmas.Bool.{cases_lt}
 use Rattle.std.proofs.lemmas.Bool.Decides.{nat_tests}
-use Rattle.std.proofs.lemmas.Int.{ints, to_z_pos, int_rem_euclid_is, int_wrap_fits, SFits-int_wrap}
+use Rattle.std.proofs.lemmas.Int.{ints, to_z_pos, int_rem_euclid_is, int_wrap_fits, SFits-int_wrap, int_wrap-add_same, int_wrap-add_right, int_wrap-sub_right, int_wrap-mul_left, int_wrap-mul_right}
 use Rattle.std.specs.Int.{int_rem_euclid, int_wrap, cast_signed, w32, w64}
 use Rattle.a95_base.specs.Integer.{wrapped}
 use Rattle.a95_base.specs.IntegerLaws.{IsInteger, DifferByMultiple, WrappedIsTheOne}
 use Rattle.a95_base.proofs.Integers.{mul_sub}
 
--- a number of 64 bits, and what its distance to the last one leaves
-pub low_of_rest : (m : ℕ) → m < 18446744073709551616 → 4294967295 - (18446744073709551615 - m) % 4294967296 ≡ m % 4294967296
-low_of_rest m h = omega arith
-
-pub low_of_low : (a : ℕ) → a % 18446744073709551616 % 4294967296 ≡ a % 4294967296
+-- a number cut to 64 bits
+low_of_low : (a : ℕ) → a % 18446744073709551616 % 4294967296 ≡ a % 4294967296
 low_of_low a = omega arith
 
 low_of_either : (b : Bool) (n : ℕ) → n < 18446744073709551616
@@ -147,3 +144,27 @@ wrapped-wrapped z = wrapped_fits (wrapped z) (fits_wrapped z)
 
 pub wrapped_small : (n : ℕ) → n < 2147483648 → wrapped (pos n) ≡ pos n
 wrapped_small n h = wrapped_fits (pos n) (omega arith)
+
+-- ---- what is left of a sum, difference or product is told by what is left of its operands
+
+module _ (a b x y : ℤ) (left : wrapped a ≡ wrapped x) (right : wrapped b ≡ wrapped y) where
+  cut_left : int_wrap w32 a ≡ int_wrap w32 x
+  cut_left = sym (wrapped_is a) ∙ left ∙ wrapped_is x
+
+  cut_right : int_wrap w32 b ≡ int_wrap w32 y
+  cut_right = sym (wrapped_is b) ∙ right ∙ wrapped_is y
+
+  pub wrapped-add : wrapped (a +ℤ b) ≡ wrapped (x +ℤ y)
+  wrapped-add =
+      wrapped_is (a +ℤ b) ∙ int_wrap-add_same w32 a x b cut_left
+      ∙ sym (int_wrap-add_right w32 x b) ∙ ap (λ z. int_wrap w32 (x +ℤ z)) cut_right ∙ int_wrap-add_right w32 x y ∙ sym (wrapped_is (x +ℤ y))
+
+  pub wrapped-subtract : wrapped (a -ℤ b) ≡ wrapped (x -ℤ y)
+  wrapped-subtract =
+      wrapped_is (a -ℤ b) ∙ int_wrap-add_same w32 a x (neg_ℤ b) cut_left
+      ∙ sym (int_wrap-sub_right w32 x b) ∙ ap (λ z. int_wrap w32 (x -ℤ z)) cut_right ∙ int_wrap-sub_right w32 x y ∙ sym (wrapped_is (x -ℤ y))
+
+  pub wrapped-multiply : wrapped (a *ℤ b) ≡ wrapped (x *ℤ y)
+  wrapped-multiply =
+      wrapped_is (a *ℤ b) ∙ sym (int_wrap-mul_left w32 a b) ∙ ap (λ z. int_wrap w32 (z *ℤ b)) cut_left ∙ int_wrap-mul_left w32 x b
+      ∙ sym (int_wrap-mul_right w32 x b) ∙ ap (λ z. int_wrap w32 (x *ℤ z)) cut_right ∙ int_wrap-mul_right w32 x y ∙ sym (wrapped_is (x *ℤ y))

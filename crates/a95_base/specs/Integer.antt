@@ -18,8 +18,8 @@ difference_of x y = wrapped (x -ℤ y)
 abbrev pub product_of : ℤ → ℤ → ℤ
 product_of x y = wrapped (x *ℤ y)
 
-abbrev pub negative_of : ℤ → ℤ
-negative_of x = wrapped (neg_ℤ x)
+abbrev pub negation_of : ℤ → ℤ
+negation_of x = wrapped (neg_ℤ x)
 
 -- division cuts off towards zero; there is none by zero
 abbrev pub quotient_of : ℤ → ℤ → Option ℤ

@@ -1,4 +1,5 @@
--- The rules of refusal by name, with the numbers that the product prints: file_too_long is P1. docs/REFUSALS.md says when each is broken.
+-- The rules of refusal by name, with the numbers that the product prints: file_too_long is P1.
+-- docs/REFUSALS.md says when each is broken.
 use Rattle.std.specs.Prelude.{ℕ}
 
 abbrev pub file_too_long : ℕ

@@ -7,7 +7,7 @@ use Rattle.std.proofs.lemmas.List.{get_or-map, length-map}
 use Rattle.std.specs.Prelude.{◌+ℤ◌, ◌-ℤ◌, ◌*ℤ◌}
 use Rattle.a95_base.specs.Integer.{wrapped, product_of}
 use Rattle.std.specs.Int.{int_wrap, w64}
-use Rattle.a95_base.proofs.Wrapping.{wrapped-wrapped, wrapped-int_wrap, wrapped_small}
+use Rattle.a95_base.proofs.Wrapping.{wrapped-wrapped, wrapped-int_wrap, wrapped_small, wrapped-add, wrapped-subtract, wrapped-multiply}
 use Rattle.a95_base.specs.Lists.{Every}
 use Rattle.rank_one.specs.declared.unit.Sum.{Sum}
 use Rattle.rank_one.specs.declared.unit.Addend.{Addend}
@@ -17,7 +17,6 @@ use Rattle.rank_one.specs.declared.unit.Factor.TheVariants as factor
 use Rattle.rank_one.specs.Meaning.{Value, Number, Whole, combined, array_at, factor_value, term_value, sum_value, added, elements}
 use Rattle.loop_tree.specs.Values.{number_at}
 use Rattle.f95a_core.specs.Lowered.{none_follow}
-use Rattle.f95a_core.proofs.Wide.{wrapped-add, wrapped-subtract, wrapped-multiply}
 use Rattle.f95a_core.proofs.Sums.{factor_at, term_from, term_at, sum_from, sum_at, wide_term_from, wide_term_at, either_way, wide_sum_from, stored_at, FactorHas, TermHas, SumHas}
 
 -- a value of n elements, the one at i being f i

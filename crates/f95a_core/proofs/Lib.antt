@@ -2,7 +2,6 @@ pub mod Flat
 pub mod Reaching
 pub mod Rows
 pub mod Cells
-pub mod Wide
 pub mod Turns
 pub mod Sums
 pub mod Elements
