@@ -5,7 +5,7 @@ use Rattle.f95_lexer.specs.declared.character.Character.{Character}
 use Rattle.f95_lexer.specs.declared.splice.Mode.{Mode}
 use Rattle.f95_lexer.specs.declared.splice.Mode.TheVariants.{Fresh, Goes, Inside}
 use Rattle.f95_lexer.specs.Characters.{is_blank}
-use Rattle.f95_lexer.specs.Lines.{onto, begins_with_feed, lines_of}
+use Rattle.f95_lexer.specs.Lines.{onto, begins_with_feed, text_lines}
 use Rattle.f95_lexer.specs.Splicing.{Spliced, ends, put, breaks_rule, all_broken, fortieth, broken_at, scan, begun, line_read, from_blank, is_comment, is_empty, opened, kept, too_long, splice, spliced, unfinished, line_breaks}
 use Rattle.f95_lexer.specs.Lexeme.{bytes_of}
 use Rattle.f95_lexer.specs.Spelling.{AllPass, is_inside}
@@ -110,14 +110,14 @@ onto_inside : (c : ℕ) (lines : List (List ℕ)) → is_inside c ≡ true → E
 onto_inside c [] e all = ((e, tt), tt)
 onto_inside c (line ∷ lines) e all = ((e, all.0), all.1)
 
-lines_inside : (bytes : List ℕ) → Each IsInsideLine (lines_of bytes)
+lines_inside : (bytes : List ℕ) → Each IsInsideLine (text_lines bytes)
 lines_inside [] = tt
 lines_inside (c ∷ cs) = go (c == 10) (c == 13 && begins_with_feed cs) refl (lines_inside cs)
   where
-    go : (b r : Bool) → c == 10 ≡ b → Each IsInsideLine (lines_of cs) → Each IsInsideLine (cond b ([] ∷ lines_of cs) (cond r (lines_of cs) (onto c (lines_of cs))))
+    go : (b r : Bool) → c == 10 ≡ b → Each IsInsideLine (text_lines cs) → Each IsInsideLine (cond b ([] ∷ text_lines cs) (cond r (text_lines cs) (onto c (text_lines cs))))
     go true r e more = (tt, more)
     go false true e more = more
-    go false false e more = onto_inside c (lines_of cs) (ap not e) more
+    go false false e more = onto_inside c (text_lines cs) (ap not e) more
 
 finished : (m : Mode) → unfinished m ≡ [] → balanced (mode_context m) [] ≡ true
 finished Fresh e = refl
@@ -128,4 +128,4 @@ pub whole_balanced : (bytes : List ℕ) → line_breaks bytes ≡ [] → balance
 whole_balanced bytes whole =
     let s = spliced bytes in
     ap (balanced None) (sym (append-nil (bytes_of s.text)))
-    ∙ (splice_leads Fresh 1 (lines_of bytes) (lines_inside bytes)).leads (left_empty s.breaks (unfinished s.mode) whole) [] (finished s.mode (right_empty s.breaks (unfinished s.mode) whole))
+    ∙ (splice_leads Fresh 1 (text_lines bytes) (lines_inside bytes)).leads (left_empty s.breaks (unfinished s.mode) whole) [] (finished s.mode (right_empty s.breaks (unfinished s.mode) whole))

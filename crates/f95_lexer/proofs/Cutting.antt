@@ -4,7 +4,7 @@ use Rattle.std.proofs.lemmas.Bool.Decides.{nat_tests}
 use Rattle.bstr.specs.Text.{line_len, no_cr, without_terminator}
 use Rattle.bstr.specs.Text as bstr
 use Rattle.bstr.proofs.lemmas.LineLemmas.{lines-nil, lines-step}
-use Rattle.f95_lexer.specs.Lines.{onto, begins_with_feed, lines_of}
+use Rattle.f95_lexer.specs.Lines.{onto, begins_with_feed, text_lines}
 
 -- the first line of what doesn't begin with a line feed, one character in front
 longer : (c : ℕ) (cs : List ℕ) → take (suc (line_len cs)) (c ∷ cs) ∷ bstr.lines_of (drop (line_len cs) cs) ≡ onto c (bstr.lines_of cs)
@@ -114,8 +114,8 @@ in_line c [] other =
     ∙ sym (ap (λ t. cond t (trimmed []) (onto c (trimmed []))) (and-false (c == 13)))
 in_line c (d ∷ ds) other = before c d ds (d == 10) refl
 
-by_character : (c : ℕ) (cs : List ℕ) (b : Bool) → c == 10 ≡ b → trimmed cs ≡ lines_of cs
-    → trimmed (c ∷ cs) ≡ cond b ([] ∷ lines_of cs) (cond (c == 13 && begins_with_feed cs) (lines_of cs) (onto c (lines_of cs)))
+by_character : (c : ℕ) (cs : List ℕ) (b : Bool) → c == 10 ≡ b → trimmed cs ≡ text_lines cs
+    → trimmed (c ∷ cs) ≡ cond b ([] ∷ text_lines cs) (cond (c == 13 && begins_with_feed cs) (text_lines cs) (onto c (text_lines cs)))
 by_character c cs true feed rest =
     ap (map without_terminator) (step c cs ∙ ap (λ t. cond t ((c ∷ []) ∷ bstr.lines_of cs) (onto c (bstr.lines_of cs))) feed)
     ∙ ap (λ s. s ∷ trimmed cs) (feed_alone c feed) ∙ ap (λ l. [] ∷ l) rest
@@ -123,6 +123,6 @@ by_character c cs false other rest =
     ap (map without_terminator) (step c cs ∙ ap (λ t. cond t ((c ∷ []) ∷ bstr.lines_of cs) (onto c (bstr.lines_of cs))) other)
     ∙ in_line c cs other ∙ ap (λ l. cond (c == 13 && begins_with_feed cs) l (onto c l)) rest
 
-pub lines_are : (bs : List ℕ) → map without_terminator (bstr.lines_of bs) ≡ lines_of bs
+pub lines_are : (bs : List ℕ) → map without_terminator (bstr.lines_of bs) ≡ text_lines bs
 lines_are [] = ap (map without_terminator) lines-nil
 lines_are (c ∷ cs) = by_character c cs (c == 10) refl (lines_are cs)

@@ -7,7 +7,7 @@ use Rattle.f95_lexer.specs.declared.splice.Mode.{Mode}
 use Rattle.f95_lexer.specs.declared.splice.Mode.TheVariants.{Fresh, Goes, Inside}
 use Rattle.f95_lexer.specs.Splicing.{Spliced, ends, put, breaks_rule, all_broken, fortieth, broken_at, scan, begun, line_read, from_blank, is_comment, is_empty, opened, kept, too_long, splice, spliced, unfinished, line_breaks}
 use Rattle.f95_lexer.specs.Rules.{Member, Numbered, numbered, numbered_from}
-use Rattle.f95_lexer.specs.Lines.{lines_of}
+use Rattle.f95_lexer.specs.Lines.{text_lines}
 use Rattle.f95_lexer.proofs.Members.{Each, each_append, each_weaker, each_has, has_left, has_right}
 
 -- a break by the rules of continuations
@@ -136,15 +136,15 @@ unfinished_sound Fresh lines h = tt
 unfinished_sound (Goes line left) lines h = (inl (six line h), tt)
 unfinished_sound (Inside d line left) lines h = (inl (six line h), tt)
 
-whole_sound : (bytes : List ℕ) → IsSplicedFrom (numbered_from 1 (lines_of bytes)) (spliced bytes)
-whole_sound bytes = splice_sound Fresh 1 (lines_of bytes) (omega arith) (omega arith)
+whole_sound : (bytes : List ℕ) → IsSplicedFrom (numbered_from 1 (text_lines bytes)) (spliced bytes)
+whole_sound bytes = splice_sound Fresh 1 (text_lines bytes) (omega arith) (omega arith)
 
 pub text_counted : (bytes : List ℕ) → Each IsCounted (spliced bytes).text
 text_counted bytes = (whole_sound bytes).text
 
-pub line_break_is : (bytes : List ℕ) (b : Break) → Member b (line_breaks bytes) → IsLineBreak (numbered_from 1 (lines_of bytes)) b
+pub line_break_is : (bytes : List ℕ) (b : Break) → Member b (line_breaks bytes) → IsLineBreak (numbered_from 1 (text_lines bytes)) b
 line_break_is bytes b h =
-    let lines = numbered_from 1 (lines_of bytes) in
+    let lines = numbered_from 1 (text_lines bytes) in
     each_has (IsLineBreak lines) b (line_breaks bytes)
     (each_append (IsLineBreak lines) (spliced bytes).breaks (unfinished (spliced bytes).mode) (whole_sound bytes).breaks
     (unfinished_sound (spliced bytes).mode lines (whole_sound bytes).mode)) h
@@ -169,6 +169,6 @@ long_found m n line text (t ∷ ts) h long =
     has_right (broken_at line 3) (too_long n t ++ first.breaks) rest.breaks (long_found first.mode (n + 1) line text ts k long))
     h
 
-pub long_line_broken : (bytes : List ℕ) (line : ℕ) (text : List ℕ) → Member (numbered line text) (numbered_from 1 (lines_of bytes)) → 132 < length text → Member (broken_at line 3) (line_breaks bytes)
+pub long_line_broken : (bytes : List ℕ) (line : ℕ) (text : List ℕ) → Member (numbered line text) (numbered_from 1 (text_lines bytes)) → 132 < length text → Member (broken_at line 3) (line_breaks bytes)
 long_line_broken bytes line text h long =
-    has_left (broken_at line 3) (spliced bytes).breaks (unfinished (spliced bytes).mode) (long_found Fresh 1 line text (lines_of bytes) h long)
+    has_left (broken_at line 3) (spliced bytes).breaks (unfinished (spliced bytes).mode) (long_found Fresh 1 line text (text_lines bytes) h long)

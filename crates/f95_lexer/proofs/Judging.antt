@@ -7,7 +7,7 @@ use Rattle.f95_lexer.specs.declared.character.Break.{Break}
 use Rattle.f95_lexer.specs.declared.lexeme.Lexeme.{Lexeme}
 use Rattle.f95_lexer.specs.declared.lexeme.Lexeme.TheVariants as lexeme
 use Rattle.f95_lexer.specs.Lexeme.{is_dotted, found_at, bytes_of}
-use Rattle.f95_lexer.specs.Lines.{lines_of}
+use Rattle.f95_lexer.specs.Lines.{text_lines}
 use Rattle.f95_lexer.specs.Splicing.{broken_at, line_breaks, spliced}
 use Rattle.f95_lexer.specs.Statements.{Placed, lexemes_behind, lexemes_of, rules_of, if_clings, token_breaks}
 use Rattle.f95_lexer.specs.Rules.{Member, IsLine, Stands, BreaksInLines, IsBroken, ComesFirst, IsLeast, breaks_of, first_of, numbered_from, Refuses, RefusesBy}
@@ -76,7 +76,7 @@ line_break_broken bytes b h = ⊎_elim
     (λ (e : b.rule ≡ 5). subst (λ r. IsBroken bytes b.line r) (sym e) (rules_of_phase.open_text (subst (λ r. Member (broken_at b.line r) (line_breaks bytes)) e h)))
     (λ (e : b.rule ≡ 6). subst (λ r. IsBroken bytes b.line r) (sym e) (rules_of_phase.bad_continuation (subst (λ r. Member (broken_at b.line r) (line_breaks bytes)) e h))) k)
     x.rule)
-    (λ (x : IsLongLine (numbered_from 1 (lines_of bytes)) b). subst (λ r. IsBroken bytes b.line r) (sym x.rule) (rules_of_phase.long_line x.text x.has x.long))
+    (λ (x : IsLongLine (numbered_from 1 (text_lines bytes)) b). subst (λ r. IsBroken bytes b.line r) (sym x.rule) (rules_of_phase.long_line x.text x.has x.long))
     (line_break_is bytes b h)
 
 -- What the one list has is broken.
@@ -144,7 +144,7 @@ stands_counted bytes line l s = (each_has IsPlaced (record { line = line; lexeme
 in_line_counted : (bytes : List ℕ) (b : Break) → Member b (line_breaks bytes) → 1 ≤ b.line
 in_line_counted bytes b h = ⊎_elim
     (λ (x : IsContinuationBreak b). x.counted)
-    (λ (x : IsLongLine (numbered_from 1 (lines_of bytes)) b). x.counted)
+    (λ (x : IsLongLine (numbered_from 1 (text_lines bytes)) b). x.counted)
     (line_break_is bytes b h)
 
 top : (line rule : ℕ) → 1 ≤ line → 1 ≤ rule → ComesFirst 1 1 line rule

@@ -1,4 +1,5 @@
 pub mod Characters
+pub mod Limits
 pub mod Lines
 pub mod Splicing
 pub mod Lexeme

@@ -11,11 +11,11 @@ begins_with_feed [] = false
 begins_with_feed (c ∷ _) = c == 10
 
 -- A line feed ends a line, and a carriage return before it belongs to neither. Behind the last line feed a line stands only where characters do.
-abbrev pub lines_of : List ℕ → List (List ℕ)
-lines_of [] = []
-lines_of (c ∷ cs) =
-    if c == 10 then [] ∷ lines_of cs
-    else (if c == 13 && begins_with_feed cs then lines_of cs else onto c (lines_of cs))
+abbrev pub text_lines : List ℕ → List (List ℕ)
+text_lines [] = []
+text_lines (c ∷ cs) =
+    if c == 10 then [] ∷ text_lines cs
+    else (if c == 13 && begins_with_feed cs then text_lines cs else onto c (text_lines cs))
 
 -- how many line feeds a text has
 abbrev pub feeds_of : List ℕ → ℕ

@@ -6,7 +6,8 @@ use Rattle.f95_lexer.specs.declared.character.Break.{Break}
 use Rattle.f95_lexer.specs.declared.lexeme.Lexeme.{Lexeme}
 use Rattle.f95_lexer.specs.declared.lexeme.Lexeme.TheVariants as lexeme
 use Rattle.f95_lexer.specs.Lexeme.{is_dotted}
-use Rattle.f95_lexer.specs.Lines.{lines_of}
+use Rattle.f95_lexer.specs.Limits.{P1, P2, P3, P4, P5, P6, P7, P8, P9, P10, longest_file, longest_line, longest_word}
+use Rattle.f95_lexer.specs.Lines.{text_lines}
 use Rattle.f95_lexer.specs.Splicing.{broken_at, line_breaks}
 use Rattle.f95_lexer.specs.Statements.{lexemes_of, token_breaks}
 
@@ -29,7 +30,7 @@ numbered_from n (text ∷ texts) = numbered n text ∷ numbered_from (n + 1) tex
 
 -- this is that line of the text
 abbrev pub IsLine : List ℕ → ℕ → List ℕ → Type 0
-IsLine bytes line text = Member (numbered line text) (numbered_from 1 (lines_of bytes))
+IsLine bytes line text = Member (numbered line text) (numbered_from 1 (text_lines bytes))
 
 -- this begins on that line
 abbrev pub Stands : List ℕ → ℕ → Lexeme → Type 0
@@ -42,25 +43,25 @@ BreaksInLines bytes line rule = Member (broken_at line rule) (line_breaks bytes)
 -- the bytes break the rule on the line
 pub data IsBroken (bytes : List ℕ) : ℕ → ℕ → Type 0 where
   -- rule 1: the file has more than 2^20 bytes
-  long_file : 1048576 < length bytes → IsBroken bytes 1 1
+  long_file : longest_file < length bytes → IsBroken bytes 1 P1
   -- rule 2: outside of comments and texts a byte belongs to nothing
-  stray : {line : ℕ} → Stands bytes line lexeme.Stray → IsBroken bytes line 2
+  stray : {line : ℕ} → Stands bytes line lexeme.Stray → IsBroken bytes line P2
   -- rule 3: a line has more than 132 characters
-  long_line : {line : ℕ} (text : List ℕ) → IsLine bytes line text → 132 < length text → IsBroken bytes line 3
+  long_line : {line : ℕ} (text : List ℕ) → IsLine bytes line text → longest_line < length text → IsBroken bytes line P3
   -- rule 4: the line is the 40th continuation line of a statement
-  many_continuations : {line : ℕ} → BreaksInLines bytes line 4 → IsBroken bytes line 4
+  many_continuations : {line : ℕ} → BreaksInLines bytes line P4 → IsBroken bytes line P4
   -- rule 5: a text is neither closed on the line nor continued
-  open_text : {line : ℕ} → BreaksInLines bytes line 5 → IsBroken bytes line 5
+  open_text : {line : ℕ} → BreaksInLines bytes line P5 → IsBroken bytes line P5
   -- rule 6: a continuation isn't whole, or a line continues nothing and begins with `&`
-  bad_continuation : {line : ℕ} → BreaksInLines bytes line 6 → IsBroken bytes line 6
+  bad_continuation : {line : ℕ} → BreaksInLines bytes line P6 → IsBroken bytes line P6
   -- rule 7: a word has more than 31 characters
-  long_word : {line : ℕ} (w : List ℕ) → Stands bytes line (lexeme.Word w) → 31 < length w → IsBroken bytes line 7
+  long_word : {line : ℕ} (w : List ℕ) → Stands bytes line (lexeme.Word w) → longest_word < length w → IsBroken bytes line P7
   -- rule 8: a number is greater than 2147483647
-  large_number : {line : ℕ} (clings : Bool) → Stands bytes line (lexeme.Number None clings) → IsBroken bytes line 8
+  large_number : {line : ℕ} (clings : Bool) → Stands bytes line (lexeme.Number None clings) → IsBroken bytes line P8
   -- rule 9: a number is directly followed by a letter, an underscore or a point that begins no dotted word
-  number_runs_on : {line : ℕ} (value : Option ℤ) → Stands bytes line (lexeme.Number value true) → IsBroken bytes line 9
+  number_runs_on : {line : ℕ} (value : Option ℤ) → Stands bytes line (lexeme.Number value true) → IsBroken bytes line P9
   -- rule 10: letters stand between two points that are no dotted word
-  no_dotted_word : {line : ℕ} (w : List ℕ) → Stands bytes line (lexeme.Pointed w) → is_dotted w ≡ false → IsBroken bytes line 10
+  no_dotted_word : {line : ℕ} (w : List ℕ) → Stands bytes line (lexeme.Pointed w) → is_dotted w ≡ false → IsBroken bytes line P10
 
 -- a line and a rule come before another line and rule, or are the same
 abbrev pub ComesFirst : ℕ → ℕ → ℕ → ℕ → Type 0

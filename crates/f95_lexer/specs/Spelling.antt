@@ -7,6 +7,7 @@ use Rattle.f95_lexer.specs.declared.token.Token.{Token}
 use Rattle.f95_lexer.specs.declared.token.Token.TheVariants as token
 use Rattle.f95_lexer.specs.declared.token.Statement.{Statement}
 use Rattle.f95_lexer.specs.Characters.{is_blank, is_letter, is_digit, is_name, is_delimiter, lower}
+use Rattle.f95_lexer.specs.Limits.{longest_file, longest_word}
 use Rattle.f95_lexer.specs.Lines.{feeds_of}
 use Rattle.f95_lexer.specs.Lexeme.{bytes_of, value_from, clings, is_dotted}
 use Rattle.f95_lexer.specs.Splicing.{spliced, line_breaks}
@@ -32,7 +33,7 @@ pub record SpellsWord (w written rest : List ℕ) : Type 0 where
   pub begun : is_letter letter ≡ true
   pub names : AllPass is_name more
   pub lowered : w ≡ lower letter ∷ map lower more
-  pub short : length w ≤ 31
+  pub short : length w ≤ longest_word
   pub longest : begins is_name rest ≡ false
 
 -- digits, with nothing behind them that can't follow a number
@@ -126,7 +127,7 @@ pub data Spelled : List Character → List Item → Type 0 where
 -- The bytes cut into these statements, with so many line feeds: the file isn't too long, no line is, continuations and
 -- texts are whole, and what the lines leave spells the tokens of the statements.
 pub record Cuts (bytes : List ℕ) (statements : List Statement) (feeds : ℕ) : Type 0 where
-  pub short : length bytes ≤ 1048576
+  pub short : length bytes ≤ longest_file
   pub lines : line_breaks bytes ≡ []
   pub items : List Item
   pub spelled : Spelled (spliced bytes).text items

@@ -7,7 +7,8 @@ use Rattle.f95_lexer.specs.declared.splice.Mode.TheVariants.{Fresh, Goes, Inside
 use Rattle.f95_lexer.specs.declared.splice.Next.{Next}
 use Rattle.f95_lexer.specs.declared.splice.Next.TheVariants as following
 use Rattle.f95_lexer.specs.Characters.{is_blank, is_delimiter}
-use Rattle.f95_lexer.specs.Lines.{lines_of}
+use Rattle.f95_lexer.specs.Limits.{P3, P4, P5, P6, longest_line, too_many_lines}
+use Rattle.f95_lexer.specs.Lines.{text_lines}
 
 -- characters, the rules broken so far, and how the last line ended
 pub record Spliced : Type 0 where
@@ -38,11 +39,11 @@ breaks_rule line r rest = record rest { breaks = broken_at line r ∷ rest.break
 
 -- rule 5: a text is neither closed on the line nor continued
 abbrev pub open_text : ℕ → Spliced → Spliced
-open_text line rest = breaks_rule line 5 rest
+open_text line rest = breaks_rule line P5 rest
 
 -- rule 6: the continuation that begins or stands on the line isn't whole
 abbrev pub bad_continuation : ℕ → Spliced → Spliced
-bad_continuation line rest = breaks_rule line 6 rest
+bad_continuation line rest = breaks_rule line P6 rest
 
 -- the characters from the first that is no blank
 abbrev pub from_blank : List ℕ → List ℕ
@@ -73,7 +74,7 @@ scan None line left [] = close line (ends Fresh)
 scan (Some d) line left [] = open_text line (close line (ends Fresh))
 scan None line left (c ∷ cs) =
     if c == 33 then close line (ends Fresh)
-    else (if c == 59 then close line (scan None line 40 cs)
+    else (if c == 59 then close line (scan None line too_many_lines cs)
     else (if c == 38 && is_comment (from_blank cs) then ends (Goes line left)
     else put c line (scan (opened c) line left cs)))
 scan (Some d) line left (c ∷ cs) =
@@ -87,7 +88,7 @@ scanned (following.Goes inside left) line cs = scan inside line left cs
 
 -- rule 4: a statement has a 40th continuation line
 abbrev pub fortieth : ℕ → ℕ → List Break
-fortieth line left = if left == 1 then broken_at line 4 ∷ [] else []
+fortieth line left = if left == 1 then broken_at line P4 ∷ [] else []
 
 -- these rules are broken, and then the rest
 abbrev pub all_broken : List Break → Spliced → Spliced
@@ -97,8 +98,8 @@ all_broken breaks rest = record rest { breaks = breaks ++ rest.breaks }
 -- with `&` goes on right behind it; another one stands apart by a blank, and can't go on with a text.
 abbrev pub begun : Mode → ℕ → ℕ → List ℕ → Spliced
 begun Fresh line c cs =
-    if c == 38 then bad_continuation line (if is_comment (from_blank cs) then ends (Goes line 40) else scan None line 40 cs)
-    else scan None line 40 (c ∷ cs)
+    if c == 38 then bad_continuation line (if is_comment (from_blank cs) then ends (Goes line too_many_lines) else scan None line too_many_lines cs)
+    else scan None line too_many_lines (c ∷ cs)
 begun (Goes from left) line c cs = all_broken (fortieth line left) (
     if c == 38 then (if is_comment (from_blank cs) then bad_continuation line (ends (Goes line (left - 1))) else scan None line (left - 1) cs)
     else put 32 line (scan None line (left - 1) (c ∷ cs)))
@@ -117,7 +118,7 @@ behind text breaks rest = record { text = text ++ rest.text; breaks = breaks ++ 
 
 -- rule 3: a line has more than 132 characters
 abbrev pub too_long : ℕ → List ℕ → List Break
-too_long line text = if nat_lt 132 (length text) then broken_at line 3 ∷ [] else []
+too_long line text = if nat_lt longest_line (length text) then broken_at line P3 ∷ [] else []
 
 -- one part, and then the rest
 abbrev pub after : List Break → Spliced → Spliced → Spliced
@@ -132,12 +133,12 @@ splice m line (text ∷ texts) =
 -- rule 6: a continuation that finds no further line
 abbrev pub unfinished : Mode → List Break
 unfinished Fresh = []
-unfinished (Goes line left) = broken_at line 6 ∷ []
-unfinished (Inside d line left) = broken_at line 6 ∷ []
+unfinished (Goes line left) = broken_at line P6 ∷ []
+unfinished (Inside d line left) = broken_at line P6 ∷ []
 
 -- the whole text
 abbrev pub spliced : List ℕ → Spliced
-spliced bytes = splice Fresh 1 (lines_of bytes)
+spliced bytes = splice Fresh 1 (text_lines bytes)
 
 -- the rules that its lines break
 abbrev pub line_breaks : List ℕ → List Break

@@ -1,3 +1,4 @@
+//! Characters with their lines, and the kinds of characters.
 ghost use Rattle.std.specs.Prelude.{◌≡◌};
 ghost use Rattle.f95_lexer.specs.Characters.{is_blank, is_letter, is_digit, is_name, is_delimiter, lower};
 

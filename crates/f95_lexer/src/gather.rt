@@ -1,17 +1,16 @@
+//! Lexemes gathered into statements, with the rules that they break.
 ghost use Rattle.std.specs.Prelude.{◌≡◌, ◌++◌, ◌∷◌, [], map, drop, length, ◌≤◌, IfOk, OnOk};
 ghost use Rattle.f95_lexer.specs.Splicing.{broken_at};
 ghost use Rattle.f95_lexer.specs.Statements.{rules_of, items_at, items_of, token_breaks, lexemes_behind, statements_of, with_statement, first_line, read_on, reading};
 
 use crate::character::{Break, Character};
 use crate::lexeme::{Lexeme, is_dotted, lexeme_at};
+use crate::limits::{LONGEST_WORD, P2, P7, P8, P9, P10};
 use crate::token::{Statement, Token};
 use a95_base::Line;
 use sqlite_items::Items;
 use std::alloc::{AllocError, Global};
 use std::mem;
-
-/// The most characters of a word.
-const LONGEST_WORD: usize = 31;
 
 /// The statements and the broken rules so far, and the tokens of a statement that isn't ended.
 #[derive(Drop)]
@@ -69,10 +68,10 @@ impl Gatherer {
     {
         match value {
             Some(value) => self.token(line, Token::Number(value))?,
-            None => self.note(line, 8)?,
+            None => self.note(line, P8)?,
         }
         if clings {
-            self.note(line, 9)?;
+            self.note(line, P9)?;
         }
         Ok(())
     }
@@ -88,7 +87,7 @@ impl Gatherer {
             Lexeme::End => self.end(alloc),
             Lexeme::Word(word) => {
                 if word.len() > LONGEST_WORD {
-                    self.note(line, 7)?;
+                    self.note(line, P7)?;
                 }
                 self.token(line, Token::Word(word))
             }
@@ -96,12 +95,12 @@ impl Gatherer {
             Lexeme::Text(bytes) => self.token(line, Token::Text(bytes)),
             Lexeme::Pointed(word) => {
                 if !is_dotted(word.as_slice()) {
-                    self.note(line, 10)?;
+                    self.note(line, P10)?;
                 }
                 self.token(line, Token::Dotted(word))
             }
             Lexeme::Symbol(mark) => self.token(line, Token::Mark(mark)),
-            Lexeme::Stray => self.note(line, 2),
+            Lexeme::Stray => self.note(line, P2),
         }
     }
 

@@ -1,3 +1,4 @@
+//! What stands at a place of the spliced characters: the longest word, number, text, dotted word or symbol that begins there.
 ghost use Rattle.std.specs.Prelude.{◌≡◌, ◌∷◌, ◌+◌, ◌-◌, ◌*◌, ◌≤◌, min, length, IfOk, IsTrue, nat_eq};
 ghost use Rattle.std.specs.Cmp.Lexicographic.{pointwise};
 ghost use Rattle.f95_lexer.specs.Lexeme.{bytes_of, front, behind_front, word_at, is_word, is_dotted, word_to_point, begins_with, begins_dotted, pointed, clings, taken, value_from, integer, number_at, literal, text_at, symbol_of_one, symbol_of_two, symbol_at, found_at};

@@ -8,6 +8,7 @@ mod character;
 mod gather;
 mod laws;
 mod lexeme;
+mod limits;
 mod read;
 mod splice;
 mod token;
@@ -15,6 +16,3 @@ mod token;
 pub use laws::{cuts_unbroken, one_cut};
 pub use read::read_statements;
 pub use token::{Mark, Statement, Statements, Token};
-
-#[cfg(test)]
-mod tests;

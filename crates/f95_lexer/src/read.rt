@@ -1,3 +1,4 @@
+//! A text read into statements, or refused by the first rule that it breaks.
 ghost use Rattle.std.specs.Prelude.{◌≡◌, ◌≤◌, ℕ, [], length, None, IfOk, IfErr, OnOk};
 ghost use Rattle.f95_lexer.specs.Lines.{feeds_of};
 ghost use Rattle.f95_lexer.specs.Statements.{statements_of, items_of, lexemes_of};
@@ -6,13 +7,11 @@ ghost use Rattle.f95_lexer.specs.Rules.{comes_first, first_from, first_of, break
 
 use crate::character::Break;
 use crate::gather::gather;
+use crate::limits::{LONGEST_FILE, P1};
 use crate::splice::{Splicer, splice};
 use crate::token::Statements;
 use a95_base::{Line, PhaseError, Rule};
 use std::alloc::Global;
-
-/// The most bytes of a file.
-const LONGEST_FILE: usize = 1 << 20;
 
 fn comes_first(a: Break, b: Break) -> bool
     ensures { result ≡ comes_first a b }
@@ -80,7 +79,7 @@ pub fn read_statements(alloc: Global, bytes: &[u8]) -> Result<Statements, PhaseE
     if bytes.len() > LONGEST_FILE {
         return Err(PhaseError::Broken {
             line: Line(1),
-            rule: Rule(1),
+            rule: Rule(P1),
         });
     }
     read(alloc, bytes)

@@ -1,13 +1,12 @@
+//! The lines of a text spliced into one run of characters, without comments and continuations.
 ghost use Rattle.std.specs.Prelude.{◌≡◌, ◌+◌, ◌-◌, ◌++◌, ◌∷◌, ◌<◌, ◌≤◌, ◌^◌, [], length, IfOk, OnOk};
 ghost use Rattle.f95_lexer.specs.Splicing.{Spliced, from_blank, is_comment, is_empty, opened, kept, character, broken_at, scan, scanned, begun, line_read, behind, fortieth, spliced, line_breaks, too_long, unfinished};
-ghost use Rattle.f95_lexer.specs.Lines.{lines_of};
+ghost use Rattle.f95_lexer.specs.Lines.{text_lines};
 
 use crate::character::{Break, Character, is_blank, is_delimiter};
+use crate::limits::{LONGEST_LINE, P3, P4, P5, P6, TOO_MANY_LINES};
 use bstr::{ByteSlice, Lines};
 use std::alloc::{AllocError, Global};
-
-/// The most continuation lines of a statement, and one more.
-const CONTINUATIONS: u8 = 40;
 
 /// How a line ends.
 #[derive(Clone, Copy)]
@@ -113,7 +112,7 @@ impl Splicer {
         }
         if c == b';' {
             self.put(b'\n', line)?;
-            return Ok(Next::Goes(None, CONTINUATIONS));
+            return Ok(Next::Goes(None, TOO_MANY_LINES));
         }
         self.put(c, line)?;
         Ok(Next::Goes(opened(c), left))
@@ -169,7 +168,7 @@ impl Splicer {
             rest = more;
         }
         if inside.is_some() {
-            self.note(line, 5)?;
+            self.note(line, P5)?;
         }
         self.put(b'\n', line)?;
         Ok(Mode::Fresh)
@@ -182,16 +181,16 @@ impl Splicer {
             ≡ record { text = self.new.text.items; breaks = self.new.breaks.items; mode = m }) }
     {
         if first != b'&' {
-            return self.scan(None, line, CONTINUATIONS, text);
+            return self.scan(None, line, TOO_MANY_LINES, text);
         }
-        self.note(line, 6)?;
+        self.note(line, P6)?;
         if is_comment(rest) {
             return Ok(Mode::Goes {
                 line,
-                left: CONTINUATIONS,
+                left: TOO_MANY_LINES,
             });
         }
-        self.scan(None, line, CONTINUATIONS, rest)
+        self.scan(None, line, TOO_MANY_LINES, rest)
     }
 
     /// Notes the 40th continuation line, and says how many lines ahead it is from the next.
@@ -201,7 +200,7 @@ impl Splicer {
         ensures text { self.new.text.items ≡ self.old.text.items }
     {
         if left == 1 {
-            self.note(line, 4)?;
+            self.note(line, P4)?;
         }
         Ok(left.saturating_sub(1))
     }
@@ -226,7 +225,7 @@ impl Splicer {
             return self.scan(None, line, left, text);
         }
         if is_comment(rest) {
-            self.note(line, 6)?;
+            self.note(line, P6)?;
             return Ok(Mode::Goes { line, left });
         }
         self.scan(None, line, left, rest)
@@ -249,12 +248,12 @@ impl Splicer {
     {
         let left = self.counted(line, left)?;
         if first != b'&' {
-            self.note(from, 6)?;
+            self.note(from, P6)?;
             self.put(b'\n', line)?;
             return self.scan(None, line, left, text);
         }
         if is_empty(rest) {
-            self.note(line, 6)?;
+            self.note(line, P6)?;
             return Ok(Mode::Inside {
                 delimiter,
                 line,
@@ -269,8 +268,8 @@ impl Splicer {
         ensures breaks { OnOk result (self.new.breaks.items ≡ self.old.breaks.items ++ too_long line text.now) }
         ensures text { self.new.text.items ≡ self.old.text.items }
     {
-        if text.len() > 132 {
-            self.note(line, 3)?;
+        if text.len() > LONGEST_LINE {
+            self.note(line, P3)?;
         }
         Ok(())
     }
@@ -282,7 +281,7 @@ impl Splicer {
     {
         match mode {
             Mode::Fresh => Ok(()),
-            Mode::Goes { line, .. } | Mode::Inside { line, .. } => self.note(line, 6),
+            Mode::Goes { line, .. } | Mode::Inside { line, .. } => self.note(line, P6),
         }
     }
 
@@ -311,8 +310,8 @@ impl Splicer {
 
 /// The lines of a text, without their ends.
 #[tactic(auto, using(crate::proofs::Cutting::lines_are))]
-fn lines_of(bytes: &[u8]) -> Lines<'_>
-    ensures lines { result ≡ lines_of bytes.now }
+fn text_lines(bytes: &[u8]) -> Lines<'_>
+    ensures lines { result ≡ text_lines bytes.now }
     ensures len { length result ≤ length bytes.now }
 {
     bytes.lines()
@@ -330,7 +329,7 @@ pub fn splice(alloc: Global, bytes: &[u8]) -> Result<Splicer, AllocError>
     };
     let mut mode = Mode::Fresh;
     let mut line = 1u32;
-    for text in lines_of(bytes) {
+    for text in text_lines(bytes) {
         splicer.measured(line, text)?;
         mode = splicer.read_line(mode, line, from_blank(text))?;
         line += 1;

@@ -1,8 +1,9 @@
+//! The parts of a statement and the statements of a text.
 use a95_base::{Bytes, Line};
 use sqlite_items::Items;
 
 /// One symbol.
-#[derive(Clone, Copy, Debug, PartialEq, Eq)]
+#[derive(Clone, Copy, PartialEq, Eq)]
 pub enum Mark {
     /// `(`
     Open,
@@ -47,7 +48,7 @@ pub enum Mark {
 }
 
 /// The smallest part of a statement that has a meaning.
-#[derive(Debug, Drop)]
+#[derive(Drop)]
 pub enum Token {
     /// A name or a keyword, in lower case.
     Word(Bytes),
@@ -60,7 +61,7 @@ pub enum Token {
 }
 
 /// A statement that isn't empty.
-#[derive(Debug, Drop)]
+#[derive(Drop)]
 pub struct Statement {
     /// The line of its first token.
     pub line: Line,
@@ -68,7 +69,7 @@ pub struct Statement {
 }
 
 /// All statements of a text, in its order.
-#[derive(Debug, Drop)]
+#[derive(Drop)]
 pub struct Statements {
     pub list: Items<Statement>,
     /// How many line feeds the text has.
