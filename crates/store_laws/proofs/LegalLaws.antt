@@ -1,12 +1,12 @@
 -- In a legal order of loops a store at once is a store after all evaluations, and for a free statement in any order.
-use Rattle.std.proofs.Common.{◌≡◌, ◌≢◌, ◌⊎◌, ℕ, List, [], ◌∷◌, length, refl, sym, ap, ◌∙◌, subst, inl, inr}
-use Rattle.a95_base.specs.Lists.{Every, Pairwise, Member, Permuted}
+use Rattle.std.proofs.Common.{◌≡◌, ◌≢◌, ℕ, List, [], ◌∷◌, length, ◌∙◌, inl, inr}
+use Rattle.a95_base.specs.Lists.{Every, Pairwise, Permuted}
 use Rattle.a95_base.specs.Lists.Permuted.{join}
-use Rattle.a95_base.proofs.Lists.{Every-weaker, Every-all, each_has, Pairwise-both, Pairwise-all, Pairwise-weaker, Pairwise-weaker_on}
+use Rattle.a95_base.proofs.Lists.{Every-weaker, each_has, Pairwise-both, Pairwise-all, Pairwise-weaker_on}
 use Rattle.a95_base.proofs.Permuted.{permuted_back}
 use Rattle.rank_shape.specs.Shape.{IsPlace}
 use Rattle.rank_shape.specs.Order.{Level, IsOrder, element_order_of}
-use Rattle.rank_shape.specs.Walk.{tour, IsWhole}
+use Rattle.rank_shape.specs.Walk.{tour}
 use Rattle.rank_shape.proofs.Orders.{element_is_order}
 use Rattle.rank_shape.proofs.Reorders.{order_whole}
 use Rattle.rank_shape.specs.declared.distance.Entry.{Entry}
@@ -18,11 +18,11 @@ use Rattle.store_laws.specs.Legal.{IsTold, KeepsPlaces, IsFree}
 use Rattle.store_laws.proofs.StoreLaws.{direct_deferred, deferred_permuted}
 
 -- what holds of each x for all later items holds for all later items of each x
-each_of_later : {A B : Type 0} (R : B → A → A → Type 0) (ds : List B) (xs : List A) → Every (λ d. Pairwise (R d) xs) ds → Pairwise (λ x y. Every (λ d. R d x y) ds) xs
+pub each_of_later : {A B : Type 0} (R : B → A → A → Type 0) (ds : List B) (xs : List A) → Every (λ d. Pairwise (R d) xs) ds → Pairwise (λ x y. Every (λ d. R d x y) ds) xs
 each_of_later R [] xs h = Pairwise-all (λ x y. Unit {0}) (λ x y. tt) xs
 each_of_later R (d ∷ ds) xs h = Pairwise-both (R d) (λ x y. Every (λ e. R e x y) ds) xs h.0 (each_of_later R ds xs h.1)
 
-join_back : {A : Type 0} (xs ys : List A) {zs : List A} → Permuted xs zs → Permuted ys zs → Permuted xs ys
+pub join_back : {A : Type 0} (xs ys : List A) {zs : List A} → Permuted xs zs → Permuted ys zs → Permuted xs ys
 join_back xs ys p q = join p (permuted_back q)
 
 module _ {S V F : Type 0} (statement : Statement (List ℕ) S V F) (Sound : S → Type 0) (May : List ℕ → V → Type 0) (rank : ℕ) (extents : List ℕ) (order : List Level) where
@@ -40,7 +40,7 @@ module _ {S V F : Type 0} (statement : Statement (List ℕ) S V F) (Sound : S �
       (Pairwise-both (λ stores reads. stores ≢ reads) (λ stores reads. Every (λ d. IsApart d stores reads → ⊥) distances) (tour order extents) whole.once
       (each_of_later (λ d stores reads. IsApart d stores reads → ⊥) distances (tour order extents) (reads_first rank order distances extents holds legal)))
 
-  places_keep : length extents ≡ rank → IsOrder rank order → KeepsPlaces statement Sound May extents → Every (Keeps statement Sound May) (tour order extents)
+  pub places_keep : length extents ≡ rank → IsOrder rank order → KeepsPlaces statement Sound May extents → Every (Keeps statement Sound May) (tour order extents)
   places_keep long holds keeps =
       Every-weaker (IsPlace extents) (Keeps statement Sound May) (λ place inside. keeps.each place inside) (tour order extents) (order_whole rank extents order long holds).within
 

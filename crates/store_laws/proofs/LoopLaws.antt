@@ -1,9 +1,9 @@
 -- Nested loops run the turns of a walk, and two loops one after the other are one.
-use Rattle.std.proofs.Common.{◌≡◌, ℕ, ◌-◌, List, [], ◌∷◌, ◌++◌, Result, Ok, Err, get_or, set, refl, sym, ap, ◌∙◌, subst}
+use Rattle.std.proofs.Common.{◌≡◌, ℕ, ◌-◌, List, [], ◌∷◌, ◌++◌, Result, Ok, Err, get_or, set, refl, sym, ap, ◌∙◌}
 use Rattle.std.specs.List.{flat_map}
 use Rattle.a95_base.specs.Lists.{Every, Pairwise}
 use Rattle.rank_shape.specs.Order.{Level}
-use Rattle.rank_shape.specs.Walk.{turns_of, tour_from, tour}
+use Rattle.rank_shape.specs.Walk.{turns_of, tour_from}
 use Rattle.store_laws.specs.Store.{and_then, Evaluated, Statement, direct}
 use Rattle.store_laws.specs.Loops.{run_each, nested, both, IsQuiet, KeepsSound, Passes}
 use Rattle.store_laws.proofs.StoreLaws.{then_then, then_same}

@@ -15,7 +15,7 @@ then_same (Ok a) f g same = same a refl
 then_same (Err stop) f g same = refl
 
 -- two results that are taken in either order
-either_order : {A B C F : Type 0} (x : Result A F) (y : Result B F) (f : A → B → Result C F) (g : B → A → Result C F) → ((a : A) (b : B) → x ≡ Ok a → y ≡ Ok b → f a b ≡ g b a) → ((stop other : F) → x ≡ Err stop → y ≡ Err other → stop ≡ other) → and_then x (λ a. and_then y (f a)) ≡ and_then y (λ b. and_then x (g b))
+pub either_order : {A B C F : Type 0} (x : Result A F) (y : Result B F) (f : A → B → Result C F) (g : B → A → Result C F) → ((a : A) (b : B) → x ≡ Ok a → y ≡ Ok b → f a b ≡ g b a) → ((stop other : F) → x ≡ Err stop → y ≡ Err other → stop ≡ other) → and_then x (λ a. and_then y (f a)) ≡ and_then y (λ b. and_then x (g b))
 either_order (Ok a) (Ok b) f g same alike = same a b refl refl
 either_order (Ok a) (Err other) f g same alike = refl
 either_order (Err stop) (Ok b) f g same alike = refl

@@ -1,10 +1,10 @@
 -- Two loops through a temporary are a store after all evaluations.
-use Rattle.std.proofs.Common.{◌≡◌, List, [], ◌∷◌, Result, Ok, Err, refl, sym, ap, ◌∙◌, subst}
+use Rattle.std.proofs.Common.{◌≡◌, List, [], ◌∷◌, Result, Ok, Err, refl, ap, ◌∙◌, subst}
 use Rattle.a95_base.specs.Lists.{Every, Pairwise}
-use Rattle.store_laws.specs.Store.{and_then, Evaluated, Statement, direct, values, store_all, deferred, Keeps, Ignores, Temporary, filling, store_kept, through, IsKeptApart, KeepsOther}
+use Rattle.store_laws.specs.Store.{and_then, Evaluated, Statement, values, store_all, Keeps, Ignores, Temporary, filling, store_kept, through, IsKeptApart, KeepsOther}
 use Rattle.store_laws.proofs.StoreLaws.{then_then, then_same, direct_deferred}
 
--- a value for each turn, and one that it may store
+-- a value for each turn, each one that it may store
 abbrev pub MayAll : {T V : Type 0} → (T → V → Type 0) → List T → List V → Type 0
 MayAll May [] [] = Unit {0}
 MayAll May [] (v ∷ vs) = ⊥
@@ -12,14 +12,14 @@ MayAll May (turn ∷ turns) [] = ⊥
 MayAll May (turn ∷ turns) (v ∷ vs) = May turn v × MayAll May turns vs
 
 -- where a result is reached through another, that one was reached
-reached : {A B F : Type 0} (r : Result A F) (go : A → Result B F) (b : B) → and_then r go ≡ Ok b → (a : A) × ((r ≡ Ok a) × (go a ≡ Ok b))
+pub reached : {A B F : Type 0} (r : Result A F) (go : A → Result B F) (b : B) → and_then r go ≡ Ok b → (a : A) × ((r ≡ Ok a) × (go a ≡ Ok b))
 reached (Ok a) go b is = (a, (refl, is))
 reached (Err stop) go b is = cc
 
-ok_is : {A F : Type 0} (a b : A) → (let x : Result A F = Ok a in let y : Result A F = Ok b in x ≡ y) → a ≡ b
+pub ok_is : {A F : Type 0} (a b : A) → (let x : Result A F = Ok a in let y : Result A F = Ok b in x ≡ y) → a ≡ b
 ok_is a b same = cc
 
-values_same : {T S V F : Type 0} (statement : Statement T S V F) (temporary : Temporary T S V) (turns : List T) (s : S) → values (filling statement temporary) turns s ≡ values statement turns s
+pub values_same : {T S V F : Type 0} (statement : Statement T S V F) (temporary : Temporary T S V) (turns : List T) (s : S) → values (filling statement temporary) turns s ≡ values statement turns s
 values_same statement temporary [] s = refl
 values_same statement temporary (t ∷ turns) s =
     then_same (statement.evaluate t s)
@@ -27,9 +27,9 @@ values_same statement temporary (t ∷ turns) s =
     (λ e. and_then (values statement turns e.after) (λ es. Ok (record { value = e.value ∷ es.value; after = es.after })))
     (λ e is. ap (λ r. and_then r (λ es. Ok (record { value = e.value ∷ es.value; after = es.after }))) (values_same statement temporary turns e.after))
 
-module _ {T S V F : Type 0} (statement : Statement T S V F) (temporary : Temporary T S V) (Sound : S → Type 0) (May : T → V → Type 0) where
+module _ {T S V F : Type 0} (statement : Statement T S V F) (Sound : S → Type 0) (May : T → V → Type 0) where
   -- what all evaluations leave
-  values_known : (turns : List T) (s : S) (es : Evaluated (List V) S) → Every (Keeps statement Sound May) turns → Sound s → values statement turns s ≡ Ok es → MayAll May turns es.value × Sound es.after
+  pub values_known : (turns : List T) (s : S) (es : Evaluated (List V) S) → Every (Keeps statement Sound May) turns → Sound s → values statement turns s ≡ Ok es → MayAll May turns es.value × Sound es.after
   values_known [] s es keeps sound is =
       let same = ok_is (record { value = []; after = s }) es is in
       let P : Evaluated (List V) S → Type 0 = λ x. MayAll May [] x.value × Sound x.after in
@@ -42,6 +42,7 @@ module _ {T S V F : Type 0} (statement : Statement T S V F) (temporary : Tempora
       let P : Evaluated (List V) S → Type 0 = λ x. MayAll May (t ∷ turns) x.value × Sound x.after in
       subst P (ok_is (record { value = one.0.value ∷ rest.0.value; after = rest.0.after }) es rest.1.1) ((known.1, others.0), others.1)
 
+module _ {T S V F : Type 0} (statement : Statement T S V F) (temporary : Temporary T S V) (Sound : S → Type 0) (May : T → V → Type 0) where
   -- values kept later leave an earlier one
   fetch_earlier : (turn : T) (turns : List T) (vs : List V) (s : S) → Every (Keeps (filling statement temporary) Sound May) turns → Every (KeepsOther temporary Sound May turn) turns → MayAll May turns vs → Sound s → temporary.fetch turn (store_all (filling statement temporary) turns vs s) ≡ temporary.fetch turn s
   fetch_earlier turn [] [] s keeps others may sound = refl
@@ -89,5 +90,5 @@ module _ {T S V F : Type 0} (statement : Statement T S V F) (temporary : Tempora
       ∙ then_then (values statement turns s) (λ es. Ok (store_all (filling statement temporary) turns es.value es.after)) last
       ∙ then_same (values statement turns s) (λ es. Ok (store_kept statement temporary turns (store_all (filling statement temporary) turns es.value es.after))) (λ es. Ok (store_all (filling statement temporary) turns es.value (store_all statement turns es.value es.after)))
       (λ es is.
-      let known = values_known turns s es keeps sound is in
+      let known = values_known statement Sound May turns s es keeps sound is in
       ap (λ x. let answer : Result S F = Ok x in answer) (all_kept apart turns es.value es.after keeps fills others known.0 known.1))

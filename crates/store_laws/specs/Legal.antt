@@ -1,6 +1,6 @@
 -- Turns that are the places of a shape, in orders of loops that are legal for some distances.
-use Rattle.std.specs.Prelude.{◌≡◌, ◌≢◌, ◌⊎◌, ℕ, List}
-use Rattle.a95_base.specs.Lists.{Every, Member}
+use Rattle.std.specs.Prelude.{◌≢◌, ◌⊎◌, ℕ, List}
+use Rattle.a95_base.specs.Lists.{Member}
 use Rattle.rank_shape.specs.Shape.{IsPlace}
 use Rattle.rank_shape.specs.declared.distance.Entry.{Entry}
 use Rattle.loop_order.specs.Apart.{IsApart}

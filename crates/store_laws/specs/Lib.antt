@@ -1,3 +1,7 @@
+pub mod Bodies
+pub mod Fusion
 pub mod Legal
 pub mod Loops
+pub mod ManyOne
+pub mod Masked
 pub mod Store

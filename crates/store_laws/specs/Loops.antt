@@ -1,5 +1,5 @@
 -- Loops that run a body in each of their turns, and stop with it.
-use Rattle.std.specs.Prelude.{◌≡◌, ℕ, ◌-◌, List, [], ◌∷◌, Result, Ok, Err, map, slice_index, slice_set}
+use Rattle.std.specs.Prelude.{◌≡◌, ℕ, ◌-◌, List, [], ◌∷◌, Result, Ok, map, slice_index, slice_set}
 use Rattle.rank_shape.specs.Order.{Level}
 use Rattle.rank_shape.specs.Walk.{turns_of}
 use Rattle.store_laws.specs.Store.{and_then}

@@ -18,6 +18,17 @@ ghost use Rattle.store_laws.specs.Store.{Statement, and_then, direct, values, st
 
 use rank_shape::{Dist, Order, Shape};
 
+mod fusion;
+mod many_one;
+mod mask;
+
+pub use fusion::{
+    fusable_by_accesses, group_is_nest, group_made_one, nests_made_one, nests_of_group_made_one,
+    statement_body, statement_is_runs,
+};
+pub use many_one::{marks_tell, test_behind_in_legal_order, test_behind_stores};
+pub use mask::mask_in_nest;
+
 /// Where no later turn looks at what an earlier one stored, a store at once is a store after all evaluations, ends that come
 /// early included.
 pub fn store_at_once<T, S, V, F>()

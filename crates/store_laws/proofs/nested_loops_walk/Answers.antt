@@ -1,4 +1,3 @@
-use Rattle.std.specs.Prelude.{IsTrue}
 use Rattle.store_laws.specs.Loops.{start_of}
 use Rattle.store_laws.proofs.LoopLaws.{nested_runs}
 use Rattle.store_laws.proofs.nested_loops_walk.Goals as goal

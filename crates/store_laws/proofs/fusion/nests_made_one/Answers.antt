@@ -1,0 +1,9 @@
+use Rattle.std.specs.Prelude.{IsTrue}
+use Rattle.loop_order.specs.Legal.{distances_of}
+use Rattle.store_laws.proofs.FusionLaws.{nests_are_one}
+use Rattle.store_laws.proofs.fusion.nests_made_one.Goals as goal
+
+pub returns : goal.returns
+returns g c =
+    λ first second sound s fusable is.
+    nests_are_one (λ x. IsTrue (sound x)) g.row.R c.args.shape.now c.args.order.now (distances_of g.row.R c.args.dists.now) first second s c.known.ensures.long c.known-2.ensures.order c.requires fusable is
