@@ -6,6 +6,8 @@ use Rattle.std.proofs.lemmas.Bool.Decides.{nat_tests}
 use Rattle.std.proofs.lemmas.List.{map-append, get_or_default}
 use Rattle.std.proofs.lemmas.List.Elements.{filter-append}
 use Rattle.std.proofs.lemmas.Option.{slice_get-get_or, slice_get_past}
+use Rattle.loop_tree.specs.declared.stuck.StuckState.{StuckState}
+use Rattle.loop_tree.specs.declared.stuck.StuckState.TheVariants as stuck
 use Rattle.loop_tree.specs.State.{Cells, Block, cells_numbered, cells_or_stuck, cells_at, with_cells, without, made_before}
 use Rattle.loop_tree.specs.Values.{and_then, is_live}
 use Rattle.loop_tree.specs.Machine.{changed, freed}
@@ -243,7 +245,7 @@ no_place ks n h = record {
 
 -- ---- other cells of one slot
 
-change_all : (top : ℕ) (ks : List Kept) (at : ℕ) (d : Kept) (f : Cells → Result Cells ℕ) (cells : Option Cells) → IsRising 0 top ks → at < length ks
+change_all : (top : ℕ) (ks : List Kept) (at : ℕ) (d : Kept) (f : Cells → Result Cells StuckState) (cells : Option Cells) → IsRising 0 top ks → at < length ks
     → (get_or ks at d).cells ≡ cells
     → changed (living ks) (Some (get_or ks at d).number) f
     ≡ and_then (and_then (cells_or_stuck cells) (λ old. and_then (f old) (λ new. Ok (record { number = (get_or ks at d).number; cells = Some new })))) (λ k. Ok (living (set ks at k)))
@@ -258,7 +260,7 @@ change_all top ks at d f (Some old) rises below e =
     [ Ok new ↦ ap Ok (with_cells_at 0 top ks at d old new rises below e) | Err why ↦ refl ]
 
 -- what the blocks are after a change of the slot that a reference leads to
-pub changed_blocks : {h : Heap} {top : ℕ} {ks : List Kept} {link : Option ℕ} {at : ℕ} {k : Kept} (f : Cells → Result Cells ℕ) → record { blocks = living ks; made = top } ≡ h
+pub changed_blocks : {h : Heap} {top : ℕ} {ks : List Kept} {link : Option ℕ} {at : ℕ} {k : Kept} (f : Cells → Result Cells StuckState) → record { blocks = living ks; made = top } ≡ h
     → IsRising 0 top ks → IsPlace ks link at → at < length ks → k ≡ get_or ks at k
     → changed h.blocks link f ≡ and_then (changed_slot k f) (λ new. Ok (living (set ks at new)))
 changed_blocks {h} {top} {ks} {link} {at} {k} f view rises place below is =
@@ -379,15 +381,15 @@ add_living {h} {made} ks (Some cells) k view some number is =
     let blocks : living (ks ++ k ∷ []) ≡ block_of made (Some cells) ++ living ks = living-append ks (k ∷ []) ∙ ap (λ bs. bs ++ living ks) block in
     ap (λ (x : Heap). with_made x (Ok cells)) (sym view) ∙ ap (λ bs. Ok (record { blocks = bs; made = made + 1 })) (sym blocks)
 
-dead_is : (r : Result Cells ℕ) (o : Option Kept) → r ≡ slot_cells o → is_live (slot_cells o) ≡ false → r ≡ Err 2
+dead_is : (r : Result Cells StuckState) (o : Option Kept) → r ≡ slot_cells o → is_live (slot_cells o) ≡ false → r ≡ Err stuck.NoBlock
 dead_is r None e h = e
 dead_is r (Some k) e h = e ∙ dead k.cells h
   where
-    dead : (c : Option Cells) → is_live (cells_or_stuck c) ≡ false → cells_or_stuck c ≡ Err 2
+    dead : (c : Option Cells) → is_live (cells_or_stuck c) ≡ false → cells_or_stuck c ≡ Err stuck.NoBlock
     dead None h = refl
     dead (Some cells) h = absurd (cc)
 
 -- a reference to nothing that lives
 pub dead_place : {h : Heap} {top : ℕ} {ks : List Kept} {link : Option ℕ} {at : ℕ} → record { blocks = living ks; made = top } ≡ h → IsRising 0 top ks → IsPlace ks link at
-    → is_live (slot_cells (slice_get ks at)) ≡ false → cells_at h.blocks link ≡ Err 2
+    → is_live (slot_cells (slice_get ks at)) ≡ false → cells_at h.blocks link ≡ Err stuck.NoBlock
 dead_place {h} {top} {ks} {link} {at} view rises place none = dead_is (cells_at h.blocks link) (slice_get ks at) (place_slot view rises place) none

@@ -1,3 +1,4 @@
+pub mod Halts
 pub mod Heap
 pub mod Held
 pub mod Slots

@@ -1,5 +1,7 @@
 -- Blocks in the order in which they were made, some of which were freed.
 use Rattle.std.specs.Prelude.{◌≡◌, ℕ, zero, suc, ◌+◌, ◌<◌, ◌≤◌, Bool, is_some, List, [], ◌∷◌, ◌++◌, length, get_or, Option, None, Some, Result, Ok, Err}
+use Rattle.loop_tree.specs.declared.stuck.StuckState.{StuckState}
+use Rattle.loop_tree.specs.declared.stuck.StuckState.TheVariants as stuck
 use Rattle.loop_tree.specs.State.{Cells, Block, cells_at, cells_or_stuck}
 use Rattle.loop_tree.specs.Values.{and_then}
 
@@ -26,17 +28,17 @@ IsRising low top [] = low ≤ top
 IsRising low top (k ∷ ks) = (low ≤ k.number) × IsRising (k.number + 1) top ks
 
 -- other cells, where there are some
-abbrev pub changed_slot : Kept → (Cells → Result Cells ℕ) → Result Kept ℕ
+abbrev pub changed_slot : Kept → (Cells → Result Cells StuckState) → Result Kept StuckState
 changed_slot k change = and_then (cells_or_stuck k.cells) (λ cells. and_then (change cells) (λ new. Ok (record { number = k.number; cells = Some new })))
 
 -- the place of the block that a reference leads to, past the end where it leads to none that lives
 pub record IsPlace (slots : List Kept) (link : Option ℕ) (at : ℕ) : Type 0 where
   pub found : (d : Kept) → at < length slots → link ≡ Some (get_or slots at d).number
-  pub none : length slots ≤ at → cells_at (living slots) link ≡ Err 2
+  pub none : length slots ≤ at → cells_at (living slots) link ≡ Err stuck.NoBlock
 
 -- the cells of a slot, if there is one
-abbrev pub slot_cells : Option Kept → Result Cells ℕ
-slot_cells None = Err 2
+abbrev pub slot_cells : Option Kept → Result Cells StuckState
+slot_cells None = Err stuck.NoBlock
 slot_cells (Some k) = cells_or_stuck k.cells
 
 -- the slots after the one at a place was freed

@@ -1,15 +1,19 @@
+//! Blocks of cells: made and freed, read and set by references.
 ghost use Rattle.std.specs.Prelude.{◌≡◌, ◌≤◌, ◌<◌, pos, [], IfOk, IfErr, IfSome, Some, IsSome, IsTrue, OnOk, OnErr, is_ok, false, filter, length, slice_get, take};
 ghost use Rattle.std.specs.Option.{option_copied};
 ghost use Rattle.loop_tree.specs.State.{cells_at, cells_or_stuck, made_before};
 ghost use Rattle.loop_tree.specs.Values.{and_then, ints_at, texts_at, int_cell, text_cell, cell_count, grown, is_live, zeros, texts_of_length};
 ghost use Rattle.loop_tree.specs.Machine.{changed, store_int, store_text, freed};
+ghost use Rattle.loop_values.specs.Halts.{IfStuck};
 ghost use Rattle.loop_values.specs.Heap.{with_made};
 ghost use Rattle.loop_values.specs.Held.{cells_in};
 ghost use Rattle.loop_values.specs.Slots.{living, is_living, IsPlace, IsRising, slot_cells, without_cells};
 
+use crate::halt::Halt;
 use crate::link::Link;
 use crate::slot::{self, Held, Slot};
 use a95_base::Bytes;
+use loop_tree::StuckState;
 use std::alloc::{AllocError, Global};
 use std::marker::Model;
 
@@ -59,14 +63,15 @@ impl Blocks {
         self.made
     }
 
-    /// Cell i of a block of integers. Err(2): there is no such block. Err(1): the block has no such cell.
+    /// Cell i of a block of integers. `NoBlock`: there is no such block. `OutsideBlock`: it has no
+    /// such cell.
     #[inline]
-    pub fn int_cell(&self, link: Option<Link>, i: i64) -> Result<i64, u8>
+    pub fn int_cell(&self, link: Option<Link>, i: i64) -> Result<i64, StuckState>
         ensures { result ≡ and_then (ints_at self.now.blocks link) (λ cells. int_cell cells i) }
     {
         match slot_of(&self.slots, self.made, &link) {
             Some(slot) => slot.int_cell(i),
-            None => Err(2),
+            None => Err(StuckState::NoBlock),
         }
     }
 
@@ -84,25 +89,26 @@ impl Blocks {
         }
     }
 
-    /// Cell i of a block of texts. Err(2): there is no such block. Err(1): the block has no such cell.
+    /// Cell i of a block of texts. `NoBlock`: there is no such block. `OutsideBlock`: it has no
+    /// such cell.
     #[inline]
-    pub fn text_cell(&self, link: Option<Link>, i: i64) -> Result<&[u8], u8>
+    pub fn text_cell(&self, link: Option<Link>, i: i64) -> Result<&[u8], StuckState>
         ensures ok { IfOk result (λ text. and_then (texts_at self.now.blocks link) (λ cells. text_cell cells i) ≡ Ok text.now) }
         ensures err { IfErr result (λ why. and_then (texts_at self.now.blocks link) (λ cells. text_cell cells i) ≡ Err why) }
     {
         match slot_of(&self.slots, self.made, &link) {
             Some(slot) => slot.text_cell(i),
-            None => Err(2),
+            None => Err(StuckState::NoBlock),
         }
     }
 
-    /// How many cells a block has. Err(2): there is no such block.
-    pub fn size(&self, link: Option<Link>) -> Result<i64, u8>
+    /// How many cells a block has. `NoBlock`: there is no such block.
+    pub fn size(&self, link: Option<Link>) -> Result<i64, StuckState>
         ensures { result ≡ and_then (cells_at self.now.blocks link) (λ cells. Ok (pos (cell_count cells))) }
     {
         match slot_of(&self.slots, self.made, &link) {
             Some(slot) => slot.size(),
-            None => Err(2),
+            None => Err(StuckState::NoBlock),
         }
     }
 
@@ -116,17 +122,22 @@ impl Blocks {
         }
     }
 
-    /// The same as a result. Err(2): there is no such block.
-    pub fn check(&self, link: Option<Link>) -> Result<(), u8>
+    /// The same as a result. `NoBlock`: there is no such block.
+    pub fn check(&self, link: Option<Link>) -> Result<(), StuckState>
         ensures live { is_ok result ≡ is_live (cells_at self.now.blocks link) }
         ensures err { IfErr result (λ why. cells_at self.now.blocks link ≡ Err why) }
     {
-        if self.is_live(link) { Ok(()) } else { Err(2) }
+        if self.is_live(link) {
+            Ok(())
+        } else {
+            Err(StuckState::NoBlock)
+        }
     }
 
-    /// Sets cell i of a block of integers. Err(2): there is no such block. Err(1): the block has no such cell.
+    /// Sets cell i of a block of integers. `NoBlock`: there is no such block. `OutsideBlock`: it has no
+    /// such cell.
     #[inline]
-    pub fn store_int(&mut self, link: Option<Link>, i: i64, value: i64) -> Result<(), u8>
+    pub fn store_int(&mut self, link: Option<Link>, i: i64, value: i64) -> Result<(), StuckState>
         ensures ok { OnOk result (changed self.old.blocks link (store_int i value) ≡ Ok self.new.blocks) }
         ensures err { IfErr result (λ why. changed self.old.blocks link (store_int i value) ≡ Err why) }
         ensures made { self.new.made ≡ self.old.made }
@@ -134,7 +145,7 @@ impl Blocks {
     {
         let at = place_of(&self.slots, self.made, &link);
         if at >= self.slots.len() {
-            return Err(2);
+            return Err(StuckState::NoBlock);
         }
         self.slots[at].store_int(i, value)
     }
@@ -153,9 +164,10 @@ impl Blocks {
         self.slots[at].store_int(i, value).is_ok()
     }
 
-    /// Sets cell i of a block of texts. Err(2): there is no such block. Err(1): the block has no such cell.
+    /// Sets cell i of a block of texts. `NoBlock`: there is no such block. `OutsideBlock`: it has no
+    /// such cell.
     #[inline]
-    pub fn store_text(&mut self, link: Option<Link>, i: i64, value: Bytes) -> Result<(), u8>
+    pub fn store_text(&mut self, link: Option<Link>, i: i64, value: Bytes) -> Result<(), StuckState>
         ensures ok { OnOk result (changed self.old.blocks link (store_text i value) ≡ Ok self.new.blocks) }
         ensures err { IfErr result (λ why. changed self.old.blocks link (store_text i value) ≡ Err why) }
         ensures made { self.new.made ≡ self.old.made }
@@ -163,59 +175,52 @@ impl Blocks {
     {
         let at = place_of(&self.slots, self.made, &link);
         if at >= self.slots.len() {
-            return Err(2);
+            return Err(StuckState::NoBlock);
         }
         self.slots[at].store_text(i, value)
     }
 
-    /// Makes a block of zeros. Err(5): the size is negative or above 2^24.
-    pub fn new_ints(&mut self, count: i64) -> Result<Result<Link, u8>, AllocError>
-        ensures ok { IfOk result (λ made. OnOk made (with_made self.old (zeros count) ≡ Ok self.new)) }
-        ensures link { IfOk result (λ made. IfOk made (λ link. link ≡ self.old.made)) }
-        ensures err { IfOk result (λ made. IfErr made (λ why. zeros count ≡ Err why)) }
-        ensures stays { IfOk result (λ made. OnErr made (self.new ≡ self.old)) }
-        ensures memory { OnErr result (self.new ≡ self.old) }
+    /// Makes a block of zeros. `BlockSize`: the size is negative or above 2^24.
+    pub fn new_ints(&mut self, count: i64) -> Result<Link, Halt>
+        ensures ok { OnOk result (with_made self.old (zeros count) ≡ Ok self.new) }
+        ensures link { IfOk result (λ link. link ≡ self.old.made) }
+        ensures stuck { IfStuck result (λ why. zeros count ≡ Err why) }
+        ensures stays { OnErr result (self.new ≡ self.old) }
     {
-        match slot::zeros(self.alloc, count)? {
-            Ok(held) => Ok(Ok(self.add(held)?)),
-            Err(why) => Ok(Err(why)),
-        }
+        let held = slot::zeros(self.alloc, count)?;
+        Ok(self.add(held)?)
     }
 
-    /// Makes a block of texts of so many blanks. Err(5): the number of texts is negative or above 2^24, or their
-    /// length is outside 0 to 255.
-    pub fn new_texts(&mut self, count: i64, size: i64) -> Result<Result<Link, u8>, AllocError>
-        ensures ok { IfOk result (λ made. OnOk made (with_made self.old (texts_of_length count size) ≡ Ok self.new)) }
-        ensures link { IfOk result (λ made. IfOk made (λ link. link ≡ self.old.made)) }
-        ensures err { IfOk result (λ made. IfErr made (λ why. texts_of_length count size ≡ Err why)) }
-        ensures stays { IfOk result (λ made. OnErr made (self.new ≡ self.old)) }
-        ensures memory { OnErr result (self.new ≡ self.old) }
+    /// Makes a block of texts of so many blanks. `BlockSize`: the number of texts is negative or above 2^24, or
+    /// their length is outside 0 to 255.
+    pub fn new_texts(&mut self, count: i64, size: i64) -> Result<Link, Halt>
+        ensures ok { OnOk result (with_made self.old (texts_of_length count size) ≡ Ok self.new) }
+        ensures link { IfOk result (λ link. link ≡ self.old.made) }
+        ensures stuck { IfStuck result (λ why. texts_of_length count size ≡ Err why) }
+        ensures stays { OnErr result (self.new ≡ self.old) }
     {
-        match slot::texts_of_length(self.alloc, count, size)? {
-            Ok(held) => Ok(Ok(self.add(held)?)),
-            Err(why) => Ok(Err(why)),
-        }
+        let held = slot::texts_of_length(self.alloc, count, size)?;
+        Ok(self.add(held)?)
     }
 
-    /// Adds so many cells at the end of a block, zeros or empty texts. Err(2): there is no such block. Err(5): the
-    /// number is negative, or the block would have more than 2^24 cells.
-    pub fn grow(&mut self, link: Option<Link>, count: i64) -> Result<Result<(), u8>, AllocError>
-        ensures ok { IfOk result (λ done. OnOk done (changed self.old.blocks link (λ cells. grown cells count) ≡ Ok self.new.blocks)) }
-        ensures err { IfOk result (λ done. IfErr done (λ why. changed self.old.blocks link (λ cells. grown cells count) ≡ Err why)) }
+    /// Adds so many cells at the end of a block, zeros or empty texts. `NoBlock`: there is no such block.
+    /// `BlockSize`: the number is negative, or the block would have more than 2^24 cells.
+    pub fn grow(&mut self, link: Option<Link>, count: i64) -> Result<(), Halt>
+        ensures ok { OnOk result (changed self.old.blocks link (λ cells. grown cells count) ≡ Ok self.new.blocks) }
+        ensures stuck { IfStuck result (λ why. changed self.old.blocks link (λ cells. grown cells count) ≡ Err why) }
         ensures made { self.new.made ≡ self.old.made }
-        ensures stays { IfOk result (λ done. OnErr done (self.new ≡ self.old)) }
-        ensures memory { OnErr result (self.new ≡ self.old) }
+        ensures stays { OnErr result (self.new ≡ self.old) }
     {
         let alloc = self.alloc;
         let at = place_of(&self.slots, self.made, &link);
         if at >= self.slots.len() {
-            return Ok(Err(2));
+            return Err(Halt::Stuck(StuckState::NoBlock));
         }
         self.slots[at].grow(alloc, count)
     }
 
-    /// Gives a block back. Err(2): there is no such block.
-    pub fn free(&mut self, link: Option<Link>) -> Result<(), u8>
+    /// Gives a block back. `NoBlock`: there is no such block.
+    pub fn free(&mut self, link: Option<Link>) -> Result<(), StuckState>
         ensures ok { OnOk result (self.new.blocks ≡ freed self.old.blocks link) }
         ensures live { is_ok result ≡ is_live (cells_at self.old.blocks link) }
         ensures err { IfErr result (λ why. cells_at self.old.blocks link ≡ Err why) }
@@ -224,7 +229,7 @@ impl Blocks {
     {
         let at = place_of(&self.slots, self.made, &link);
         if !free_at(&mut self.slots, at) {
-            return Err(2);
+            return Err(StuckState::NoBlock);
         }
         self.holes = give_back(&mut self.slots, self.made, self.holes.saturating_add(1));
         Ok(())

@@ -5,7 +5,7 @@ ghost use Rattle.a95_base.specs.Integer.{wrapped};
 ghost use Rattle.loop_tree.specs.Values.{operation, power, quotient, remainder, truth};
 
 use a95_base::wrap32;
-use loop_tree::Operator;
+use loop_tree::{Operator, StuckState};
 
 /// What is left of the sum in 64 bits.
 #[tactic(auto, using(std::proofs::lemmas::Int::wrapping_add_is))]
@@ -33,9 +33,9 @@ pub fn product(x: i64, y: i64) -> i64
     x.wrapping_mul(y)
 }
 
-/// What an operator gives. Arithmetic wraps at 64 bits, and division cuts off toward 0. Err(3): the divisor is 0.
+/// What an operator gives. Arithmetic wraps at 64 bits, and division cuts off toward 0. `ZeroDivisor`: the divisor is 0.
 #[tactic(auto, unfolding(loop_tree::specs::Values::operation))]
-pub fn operation(op: Operator, x: i64, y: i64) -> Result<i64, u8>
+pub fn operation(op: Operator, x: i64, y: i64) -> Result<i64, StuckState>
     ensures { result ≡ operation op x y }
 {
     match op {
@@ -53,20 +53,20 @@ pub fn operation(op: Operator, x: i64, y: i64) -> Result<i64, u8>
     }
 }
 
-fn quotient(x: i64, y: i64) -> Result<i64, u8>
+fn quotient(x: i64, y: i64) -> Result<i64, StuckState>
     ensures { result ≡ quotient x y }
 {
     if y == 0 {
-        return Err(3);
+        return Err(StuckState::ZeroDivisor);
     }
     Ok(x.wrapping_div(y))
 }
 
-fn remainder(x: i64, y: i64) -> Result<i64, u8>
+fn remainder(x: i64, y: i64) -> Result<i64, StuckState>
     ensures { result ≡ remainder x y }
 {
     if y == 0 {
-        return Err(3);
+        return Err(StuckState::ZeroDivisor);
     }
     Ok(x.wrapping_rem(y))
 }
@@ -85,13 +85,13 @@ pub fn wrap(x: i64) -> i64
     i64::from(wrap32(x))
 }
 
-/// The power of two numbers of 32 bits. Err(9): the exponent is negative.
-pub fn power(x: i64, y: i64) -> Result<i64, u8>
+/// The power of two numbers of 32 bits. `NegativeExponent`: the exponent is.
+pub fn power(x: i64, y: i64) -> Result<i64, StuckState>
     ensures { result ≡ power x y }
 {
     match u32::try_from(wrap32(y)) {
         Ok(exponent) => Ok(wrap(wrap(x).wrapping_pow(exponent))),
-        Err(_) => Err(9),
+        Err(_) => Err(StuckState::NegativeExponent),
     }
 }
 

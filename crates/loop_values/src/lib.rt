@@ -1,8 +1,9 @@
 //! What a running LoopC program holds, and what its rows compute: variables, blocks, and the built-ins on integers and
-//! texts. The meaning of each stands in the `specs/` of `loop_tree`. A `u8` in an `Err` is the number of the stuck state.
+//! texts. The meaning of each stands in the `specs/` of `loop_tree`.
 #![tactic(auto)]
 
 mod blocks;
+mod halt;
 mod integers;
 mod link;
 mod slot;
@@ -11,6 +12,7 @@ mod texts;
 mod variables;
 
 pub use blocks::Blocks;
+pub use halt::Halt;
 pub use integers::{difference, operation, power, product, sum, truth, wrap, xor};
 pub use link::Link;
 pub use texts::{char, code, compare, fit, index, join, left, over, right, sub, trim};

@@ -1,3 +1,4 @@
+//! References to blocks.
 ghost use Rattle.std.specs.Prelude.{◌≡◌};
 
 use std::marker::Model;

@@ -4,9 +4,12 @@ ghost use Rattle.loop_tree.specs.State.{Ints, Texts, cells_or_stuck};
 ghost use Rattle.loop_tree.specs.Values.{and_then, ints_of, texts_of, int_cell, text_cell, stored, cell_count, size_within, grown, zeros, texts_of_length};
 ghost use Rattle.loop_tree.specs.Machine.{store_int, store_text};
 ghost use Rattle.loop_values.specs.Slots.{changed_slot, is_living};
+ghost use Rattle.loop_values.specs.Halts.{IfStuck};
 ghost use Rattle.loop_values.specs.Held.{cells_in};
 
+use crate::halt::Halt;
 use a95_base::Bytes;
+use loop_tree::StuckState;
 use std::alloc::{AllocError, Global};
 use std::marker::Model;
 
@@ -59,36 +62,36 @@ impl Slot {
         !matches!(self.held, Held::Nothing)
     }
 
-    pub fn int_cell(&self, i: i64) -> Result<i64, u8>
+    pub fn int_cell(&self, i: i64) -> Result<i64, StuckState>
         ensures { result ≡ and_then (and_then (cells_or_stuck self.now.cells) ints_of) (λ cells. int_cell cells i) }
     {
         match &self.held {
             Held::Ints(cells) => read_int(cells, i),
-            _ => Err(2),
+            _ => Err(StuckState::NoBlock),
         }
     }
 
-    pub fn text_cell(&self, i: i64) -> Result<&[u8], u8>
+    pub fn text_cell(&self, i: i64) -> Result<&[u8], StuckState>
         ensures ok { IfOk result (λ text. and_then (and_then (cells_or_stuck self.now.cells) texts_of) (λ cells. text_cell cells i) ≡ Ok text.now) }
         ensures err { IfErr result (λ why. and_then (and_then (cells_or_stuck self.now.cells) texts_of) (λ cells. text_cell cells i) ≡ Err why) }
     {
         match &self.held {
             Held::Texts(cells) => read_text(cells, i),
-            _ => Err(2),
+            _ => Err(StuckState::NoBlock),
         }
     }
 
-    pub fn size(&self) -> Result<i64, u8>
+    pub fn size(&self) -> Result<i64, StuckState>
         ensures { result ≡ and_then (cells_or_stuck self.now.cells) (λ cells. Ok (pos (cell_count cells))) }
     {
         match &self.held {
             Held::Ints(cells) => Ok(cells.len() as i64),
             Held::Texts(cells) => Ok(cells.len() as i64),
-            Held::Nothing => Err(2),
+            Held::Nothing => Err(StuckState::NoBlock),
         }
     }
 
-    pub fn store_int(&mut self, i: i64, value: i64) -> Result<(), u8>
+    pub fn store_int(&mut self, i: i64, value: i64) -> Result<(), StuckState>
         ensures number { self.new.number ≡ self.old.number }
         ensures ok { OnOk result (changed_slot self.old (store_int i value) ≡ Ok self.new) }
         ensures err { IfErr result (λ why. changed_slot self.old (store_int i value) ≡ Err why) }
@@ -96,11 +99,11 @@ impl Slot {
     {
         match &mut self.held {
             Held::Ints(cells) => write(cells, i, value),
-            _ => Err(2),
+            _ => Err(StuckState::NoBlock),
         }
     }
 
-    pub fn store_text(&mut self, i: i64, value: Bytes) -> Result<(), u8>
+    pub fn store_text(&mut self, i: i64, value: Bytes) -> Result<(), StuckState>
         ensures number { self.new.number ≡ self.old.number }
         ensures ok { OnOk result (changed_slot self.old (store_text i value) ≡ Ok self.new) }
         ensures err { IfErr result (λ why. changed_slot self.old (store_text i value) ≡ Err why) }
@@ -108,22 +111,21 @@ impl Slot {
     {
         match &mut self.held {
             Held::Texts(cells) => write(cells, i, value),
-            _ => Err(2),
+            _ => Err(StuckState::NoBlock),
         }
     }
 
     /// So many more cells at the end.
-    pub fn grow(&mut self, alloc: Global, count: i64) -> Result<Result<(), u8>, AllocError>
+    pub fn grow(&mut self, alloc: Global, count: i64) -> Result<(), Halt>
         ensures number { self.new.number ≡ self.old.number }
-        ensures ok { IfOk result (λ done. OnOk done (changed_slot self.old (λ cells. grown cells count) ≡ Ok self.new)) }
-        ensures err { IfOk result (λ done. IfErr done (λ why. changed_slot self.old (λ cells. grown cells count) ≡ Err why)) }
-        ensures stays { IfOk result (λ done. OnErr done (self.new ≡ self.old)) }
-        ensures memory { OnErr result (self.new ≡ self.old) }
+        ensures ok { OnOk result (changed_slot self.old (λ cells. grown cells count) ≡ Ok self.new) }
+        ensures stuck { IfStuck result (λ why. changed_slot self.old (λ cells. grown cells count) ≡ Err why) }
+        ensures stays { OnErr result (self.new ≡ self.old) }
     {
         match &mut self.held {
             Held::Ints(cells) => grow_ints(cells, count),
             Held::Texts(cells) => grow_texts(alloc, cells, count),
-            Held::Nothing => Ok(Err(2)),
+            Held::Nothing => Err(Halt::Stuck(StuckState::NoBlock)),
         }
     }
 
@@ -136,94 +138,80 @@ impl Slot {
     }
 }
 
-fn read_int(cells: &[i64], i: i64) -> Result<i64, u8>
+fn read_int(cells: &[i64], i: i64) -> Result<i64, StuckState>
     ensures { result ≡ int_cell cells.now i }
 {
     if i < 0 {
-        return Err(1);
+        return Err(StuckState::OutsideBlock);
     }
     match cells.get(i as usize) {
         Some(value) => Ok(*value),
-        None => Err(1),
+        None => Err(StuckState::OutsideBlock),
     }
 }
 
-fn read_text(cells: &[Bytes], i: i64) -> Result<&[u8], u8>
+fn read_text(cells: &[Bytes], i: i64) -> Result<&[u8], StuckState>
     ensures ok { IfOk result (λ text. text_cell cells.now i ≡ Ok text.now) }
     ensures err { IfErr result (λ why. text_cell cells.now i ≡ Err why) }
 {
     if i < 0 {
-        return Err(1);
+        return Err(StuckState::OutsideBlock);
     }
     match cells.get(i as usize) {
         Some(value) => Ok(value.as_slice()),
-        None => Err(1),
+        None => Err(StuckState::OutsideBlock),
     }
 }
 
-fn write<T: Drop>(cells: &mut [T], i: i64, value: T) -> Result<(), u8>
+fn write<T: Drop>(cells: &mut [T], i: i64, value: T) -> Result<(), StuckState>
     ensures ok { OnOk result (stored cells.old i value ≡ Ok cells.new) }
     ensures err { IfErr result (λ why. stored cells.old i value ≡ Err why) }
     ensures stays { OnErr result (cells.new ≡ cells.old) }
 {
     if i < 0 {
-        return Err(1);
+        return Err(StuckState::OutsideBlock);
     }
     let place = i as usize;
     if place >= cells.len() {
-        return Err(1);
+        return Err(StuckState::OutsideBlock);
     }
     cells[place] = value;
     Ok(())
 }
 
 // The number of cells, where so many may be added to those that there are.
-fn size_within(limit: usize, count: i64) -> Result<usize, u8>
+fn size_within(limit: usize, count: i64) -> Result<usize, StuckState>
     ensures { result ≡ size_within limit count }
 {
     if count < 0 || count as usize > limit {
-        return Err(5);
+        return Err(StuckState::BlockSize);
     }
     Ok(count as usize)
 }
 
-fn grow_ints(cells: &mut Vec<i64>, count: i64) -> Result<Result<(), u8>, AllocError>
-    ensures ok { IfOk result (λ done. OnOk done (grown (Ints cells.old.items) count ≡ Ok (Ints cells.new.items))) }
-    ensures err { IfOk result (λ done. IfErr done (λ why. grown (Ints cells.old.items) count ≡ Err why)) }
-    ensures stays { IfOk result (λ done. OnErr done (cells.new.items ≡ cells.old.items)) }
-    ensures memory { OnErr result (cells.new.items ≡ cells.old.items) }
+fn grow_ints(cells: &mut Vec<i64>, count: i64) -> Result<(), Halt>
+    ensures ok { OnOk result (grown (Ints cells.old.items) count ≡ Ok (Ints cells.new.items)) }
+    ensures stuck { IfStuck result (λ why. grown (Ints cells.old.items) count ≡ Err why) }
+    ensures stays { OnErr result (cells.new.items ≡ cells.old.items) }
 {
     let length = cells.len();
-    match size_within(LARGEST.saturating_sub(length), count) {
-        Ok(more) => {
-            cells.resize(length + more, 0)?;
-            Ok(Ok(()))
-        }
-        Err(why) => Ok(Err(why)),
-    }
+    let more = size_within(LARGEST.saturating_sub(length), count)?;
+    cells.resize(length + more, 0)?;
+    Ok(())
 }
 
-fn grow_texts(
-    alloc: Global,
-    cells: &mut Vec<Bytes>,
-    count: i64,
-) -> Result<Result<(), u8>, AllocError>
-    ensures ok { IfOk result (λ done. OnOk done (grown (Texts cells.old.items) count ≡ Ok (Texts cells.new.items))) }
-    ensures err { IfOk result (λ done. IfErr done (λ why. grown (Texts cells.old.items) count ≡ Err why)) }
-    ensures stays { IfOk result (λ done. OnErr done (cells.new.items ≡ cells.old.items)) }
-    ensures memory { OnErr result (cells.new.items ≡ cells.old.items) }
+fn grow_texts(alloc: Global, cells: &mut Vec<Bytes>, count: i64) -> Result<(), Halt>
+    ensures ok { OnOk result (grown (Texts cells.old.items) count ≡ Ok (Texts cells.new.items)) }
+    ensures stuck { IfStuck result (λ why. grown (Texts cells.old.items) count ≡ Err why) }
+    ensures stays { OnErr result (cells.new.items ≡ cells.old.items) }
 {
     let length = cells.len();
-    match size_within(LARGEST.saturating_sub(length), count) {
-        Ok(more) => {
-            if add_texts(alloc, cells, more, 0).is_err() {
-                cells.truncate(length);
-                return Err(AllocError);
-            }
-            Ok(Ok(()))
-        }
-        Err(why) => Ok(Err(why)),
+    let more = size_within(LARGEST.saturating_sub(length), count)?;
+    if add_texts(alloc, cells, more, 0).is_err() {
+        cells.truncate(length);
+        return Err(Halt::Memory);
     }
+    Ok(())
 }
 
 // Adds so many texts of so many blanks.
@@ -251,34 +239,24 @@ fn blanks(alloc: Global, size: usize) -> Result<Bytes, AllocError>
 }
 
 /// So many zeros, each of which takes eight bytes.
-pub fn zeros(alloc: Global, count: i64) -> Result<Result<Held, u8>, AllocError>
-    ensures ok { IfOk result (λ made. IfOk made (λ held. cells_or_stuck (cells_in held) ≡ zeros count)) }
-    ensures err { IfOk result (λ made. IfErr made (λ why. zeros count ≡ Err why)) }
+pub fn zeros(alloc: Global, count: i64) -> Result<Held, Halt>
+    ensures ok { IfOk result (λ held. cells_or_stuck (cells_in held) ≡ zeros count) }
+    ensures stuck { IfStuck result (λ why. zeros count ≡ Err why) }
 {
-    match size_within(LARGEST, count) {
-        Ok(length) => {
-            let mut cells = Vec::with_capacity(alloc, length)?;
-            cells.resize(length, 0)?;
-            Ok(Ok(Held::Ints(cells)))
-        }
-        Err(why) => Ok(Err(why)),
-    }
+    let length = size_within(LARGEST, count)?;
+    let mut cells = Vec::with_capacity(alloc, length)?;
+    cells.resize(length, 0)?;
+    Ok(Held::Ints(cells))
 }
 
 /// So many texts, of so many blanks each.
-pub fn texts_of_length(alloc: Global, count: i64, size: i64) -> Result<Result<Held, u8>, AllocError>
-    ensures ok { IfOk result (λ made. IfOk made (λ held. cells_or_stuck (cells_in held) ≡ texts_of_length count size)) }
-    ensures err { IfOk result (λ made. IfErr made (λ why. texts_of_length count size ≡ Err why)) }
+pub fn texts_of_length(alloc: Global, count: i64, size: i64) -> Result<Held, Halt>
+    ensures ok { IfOk result (λ held. cells_or_stuck (cells_in held) ≡ texts_of_length count size) }
+    ensures stuck { IfStuck result (λ why. texts_of_length count size ≡ Err why) }
 {
-    match size_within(LARGEST, count) {
-        Ok(length) => match size_within(255, size) {
-            Ok(size) => {
-                let mut cells = Vec::with_capacity(alloc, length)?;
-                add_texts(alloc, &mut cells, length, size)?;
-                Ok(Ok(Held::Texts(cells)))
-            }
-            Err(why) => Ok(Err(why)),
-        },
-        Err(why) => Ok(Err(why)),
-    }
+    let length = size_within(LARGEST, count)?;
+    let size = size_within(255, size)?;
+    let mut cells = Vec::with_capacity(alloc, length)?;
+    add_texts(alloc, &mut cells, length, size)?;
+    Ok(Held::Texts(cells))
 }

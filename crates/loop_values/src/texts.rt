@@ -2,8 +2,11 @@
 ghost use Rattle.std.specs.Prelude.{◌≡◌, ◌≤◌, [], ◌++◌, pos, length, IfOk};
 ghost use Rattle.loop_tree.specs.Characters.{compare_padded, first_place, fit, part_of, past_blanks, trim, adjust_left, adjust_right};
 ghost use Rattle.loop_tree.specs.Values.{code_of, char_of, sub, replaced, fitted};
+ghost use Rattle.loop_values.specs.Halts.{Yields};
 
+use crate::halt::Halt;
 use a95_base::Bytes;
+use loop_tree::StuckState;
 use memchr::memmem;
 use std::alloc::{AllocError, Global};
 
@@ -17,23 +20,23 @@ pub fn index(text: &[u8], part: &[u8]) -> i64
     }
 }
 
-/// The byte of a text of one byte. Err(6): the text has another length.
-pub fn code(text: &[u8]) -> Result<i64, u8>
+/// The byte of a text of one byte. `OutsideText`: the text has another length.
+pub fn code(text: &[u8]) -> Result<i64, StuckState>
     ensures { result ≡ code_of text.now }
 {
     match text {
         [byte] => Ok(i64::from(*byte)),
-        _ => Err(6),
+        _ => Err(StuckState::OutsideText),
     }
 }
 
-/// The text of one byte. Err(7): the number is outside 0 to 255.
-pub fn char(alloc: Global, code: i64) -> Result<Result<Bytes, u8>, AllocError>
-    ensures { IfOk result (λ made. made ≡ char_of code) }
+/// The text of one byte. `NoByte`: the number is outside 0 to 255.
+pub fn char(alloc: Global, code: i64) -> Result<Bytes, Halt>
+    ensures { Yields (char_of code) result }
 {
     match u8::try_from(code) {
-        Ok(byte) => Ok(Ok(Bytes::from_slice(alloc, &[byte])?)),
-        Err(_) => Ok(Err(7)),
+        Ok(byte) => Ok(Bytes::from_slice(alloc, &[byte])?),
+        Err(_) => Err(Halt::Stuck(StuckState::NoByte)),
     }
 }
 
@@ -87,17 +90,17 @@ pub fn join(alloc: Global, front: &[u8], back: &[u8]) -> Result<Bytes, AllocErro
     Ok(Bytes::from_vec(bytes))
 }
 
-/// The bytes from one place to another, none where the first is greater. Err(6): a place is outside the text.
-pub fn sub(alloc: Global, text: &[u8], from: i64, to: i64) -> Result<Result<Bytes, u8>, AllocError>
-    ensures { IfOk result (λ made. made ≡ sub text.now from to) }
+/// The bytes from one place to another, none where the first is greater. `OutsideText`: a place is outside the text.
+pub fn sub(alloc: Global, text: &[u8], from: i64, to: i64) -> Result<Bytes, Halt>
+    ensures { Yields (sub text.now from to) result }
 {
     if to < from {
-        return Ok(Ok(Bytes::new(alloc)));
+        return Ok(Bytes::new(alloc));
     }
     if from < 1 || to as usize > text.len() {
-        return Ok(Err(6));
+        return Err(Halt::Stuck(StuckState::OutsideText));
     }
-    Ok(Ok(part(alloc, text, from as usize, to as usize)?))
+    Ok(part(alloc, text, from as usize, to as usize)?)
 }
 
 fn part(alloc: Global, text: &[u8], from: usize, to: usize) -> Result<Bytes, AllocError>
@@ -110,37 +113,32 @@ fn part(alloc: Global, text: &[u8], from: usize, to: usize) -> Result<Bytes, All
     Bytes::from_slice(alloc, &front[from - 1..])
 }
 
-/// The text with the bytes from a place on replaced. Err(6): a place is outside the text.
-pub fn over(
-    alloc: Global,
-    text: &[u8],
-    from: i64,
-    new: &[u8],
-) -> Result<Result<Bytes, u8>, AllocError>
-    ensures { IfOk result (λ made. made ≡ replaced text.now from new.now) }
+/// The text with the bytes from a place on replaced. `OutsideText`: a place is outside the text.
+pub fn over(alloc: Global, text: &[u8], from: i64, new: &[u8]) -> Result<Bytes, Halt>
+    ensures { Yields (replaced text.now from new.now) result }
 {
     if new.is_empty() {
-        return Ok(Ok(Bytes::from_slice(alloc, text)?));
+        return Ok(Bytes::from_slice(alloc, text)?);
     }
     if from < 1 || new.len() > text.len() || from as usize - 1 > text.len() - new.len() {
-        return Ok(Err(6));
+        return Err(Halt::Stuck(StuckState::OutsideText));
     }
     let start = from as usize - 1;
     let mut bytes = Vec::with_capacity(alloc, text.len())?;
     bytes.extend_from_slice(&text[..start])?;
     bytes.extend_from_slice(new)?;
     bytes.extend_from_slice(&text[start + new.len()..])?;
-    Ok(Ok(Bytes::from_vec(bytes)))
+    Ok(Bytes::from_vec(bytes))
 }
 
-/// The text cut to so many bytes, or padded with blanks. Err(6): the number is negative.
-pub fn fit(alloc: Global, text: &[u8], length: i64) -> Result<Result<Bytes, u8>, AllocError>
-    ensures { IfOk result (λ made. made ≡ fitted text.now length) }
+/// The text cut to so many bytes, or padded with blanks. `OutsideText`: the number is negative.
+pub fn fit(alloc: Global, text: &[u8], length: i64) -> Result<Bytes, Halt>
+    ensures { Yields (fitted text.now length) result }
 {
     if length < 0 {
-        return Ok(Err(6));
+        return Err(Halt::Stuck(StuckState::OutsideText));
     }
-    Ok(Ok(fit_to(alloc, text, length as usize)?))
+    Ok(fit_to(alloc, text, length as usize)?)
 }
 
 fn fit_to(alloc: Global, text: &[u8], length: usize) -> Result<Bytes, AllocError>
