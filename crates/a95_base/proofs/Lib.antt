@@ -3,6 +3,7 @@ pub mod Lists
 pub mod Moduli
 pub mod Permuted
 pub mod Powers
+pub mod Quotients
 pub mod Steps
 pub mod Texts
 pub mod Wrapping

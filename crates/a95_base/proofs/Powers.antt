@@ -1,4 +1,4 @@
--- Quotients and powers of INTEGERs: what wrapping operations give, and what is left of one divided by a power.
+-- Powers of INTEGERs: what a wrapping power gives, and one divided by a power.
 use Rattle.std.proofs.Common.{◌≡◌, ◌≢◌, ℕ, zero, suc, ◌-◌, ◌*◌, ◌/◌, ◌%◌, ◌^◌, ◌<◌, ◌≤◌, true, false, ℤ, pos, ◌+ℤ◌, ◌-ℤ◌, ◌*ℤ◌, ◌<ℤ◌, FitsSigned, w32, of_z, to_z, cond, ◌⊎◌, inl, inr, refl, sym, ap, ◌∙◌, subst, arith}
 use Rattle.std.specs.Prelude.{negsuc, unsigned_abs, int_div, int_rem, neg_ℤ, Bool, Some, ◌==◌}
 use Rattle.std.specs.Int.{int_wrap, int_pow, int_wrapping_div, int_wrapping_pow, cast_signed, cast_unsigned}
@@ -8,50 +8,11 @@ use Rattle.std.proofs.lemmas.Nat.{mul-mod, mul-le}
 use Rattle.std.proofs.lemmas.Bool.{cases_eq, false_from_ne_true}
 use Rattle.std.proofs.lemmas.Bool.Decides.{nat_tests, Decides-int_eq}
 use Rattle.std.proofs.lemmas.Int.{ints, to_z-of_z, quot-rem, wrapping_mul_onto, int_wrap-mul_left}
-use Rattle.a95_base.specs.Integer.{wrapped, quotient_of, remainder_of, power_of}
+use Rattle.a95_base.specs.Integer.{wrapped, quotient_of, raised, power_of}
 use Rattle.a95_base.proofs.Wrapping.{wrapped_is}
+use Rattle.a95_base.proofs.Quotients.{not_zero}
 
--- ---- quotients
-
-abs_neg : (n : ℕ) → unsigned_abs (neg_ℤ (pos n)) ≡ n
-abs_neg zero = refl
-abs_neg (suc n) = refl
-
-abs_div : (x y : ℤ) → unsigned_abs (int_div x y) ≤ unsigned_abs x
-abs_div (pos a) (pos b) = div-le_self a b
-abs_div (pos a) (negsuc b) = subst (λ n. n ≤ a) (sym (abs_neg (a / suc b))) (div-le_self a (suc b))
-abs_div (negsuc a) (pos b) = subst (λ n. n ≤ suc a) (sym (abs_neg (suc a / b))) (div-le_self (suc a) b)
-abs_div (negsuc a) (negsuc b) = div-le_self (suc a) (suc b)
-
--- a number of 32 bits but for its sign
-wrap_near : (z : ℤ) → unsigned_abs z ≤ 2147483648 → cast_signed w32 (cast_unsigned w32 z) ≡ int_wrap w32 z
-unfolding int_wrap
-wrap_near (pos n) h = let e : n ≡ n % 4294967296 = omega arith in ap (cast_signed w32) e
-wrap_near (negsuc n) h = let e : 4294967296 - suc n ≡ 4294967295 - n % 4294967296 = omega arith in ap (cast_signed w32) e
-
-fits_abs : (z : ℤ) → FitsSigned w32 z → unsigned_abs z ≤ 2147483648
-fits_abs (pos n) h = omega arith
-fits_abs (negsuc n) h = omega arith
-
-not_zero : (y : ℤ) → y ≢ pos 0 → int_eq y (pos 0) ≡ false
-not_zero y h = false_from_ne_true (int_eq y (pos 0)) (λ same. h ((Decides-int_eq y (pos 0)).0 same))
-
-pub divided : (x y : ℤ) → FitsSigned w32 x → y ≢ pos 0 → Some (int_wrapping_div w32 x y) ≡ quotient_of x y
-divided x y fits h =
-    let small : unsigned_abs (int_div x y) ≤ 2147483648 = omega (arith, abs_div x y, fits_abs x fits) in
-    let whole : int_wrapping_div w32 x y ≡ wrapped (int_div x y) = wrap_near (int_div x y) small ∙ sym (wrapped_is (int_div x y)) in
-    let other : int_eq y (pos 0) ≡ false = not_zero y h in
-    rw other (ap Some whole)
-
-taken : (q p r a : ℤ) → q *ℤ p +ℤ r ≡ a → r ≡ a -ℤ q *ℤ p
-taken q p r a e = omega (arith, ints, e)
-
-pub left_over : (a p : ℤ) → p ≢ pos 0 → Some (int_rem a p) ≡ remainder_of a p
-left_over a p h =
-    let other : int_eq p (pos 0) ≡ false = not_zero p h in
-    rw other (ap Some (taken (int_div a p) p (int_rem a p) a (quot-rem a p)))
-
--- ---- powers
+-- ---- what a wrapping power gives
 
 neg_times : (n a : ℕ) → neg_ℤ (pos n) *ℤ negsuc a ≡ pos (n * suc a)
 neg_times zero a = ap (λ k. neg_ℤ (pos k)) (zero-mul (suc a)) ∙ ap pos (sym (zero-mul (suc a)))
@@ -112,9 +73,8 @@ pow_bits z (suc e) fits =
     ∙ int_wrap-mul_left w32 (int_pow z e) z
     ∙ ap (int_wrap w32) (sym (pow_step z e))
 
--- the power by an exponent that isn't negative
-pub raised : (x n : ℤ) (e : ℕ) → FitsSigned w32 x → n ≡ pos e → Some (int_wrapping_pow w32 x e) ≡ power_of x n
-raised x n e fits is = ap Some (pow_bits x e fits ∙ sym (wrapped_is (int_pow x e))) ∙ ap (power_of x) (sym is)
+pub pow_wraps : (x : ℤ) (e : ℕ) → FitsSigned w32 x → int_wrapping_pow w32 x e ≡ raised x e
+pow_wraps x e fits = pow_bits x e fits ∙ sym (wrapped_is (int_pow x e))
 
 -- ---- one divided by a power
 

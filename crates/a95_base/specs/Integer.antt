@@ -1,5 +1,5 @@
 -- The 32-bit INTEGER: its operators, and the elemental functions on integers.
-use Rattle.std.specs.Prelude.{ℤ, pos, negsuc, neg_ℤ, zero, suc, ◌^◌, ◌+ℤ◌, ◌-ℤ◌, ◌*ℤ◌, int_div, int_le, unsigned_abs, if◌then◌else◌, Option, Some, None}
+use Rattle.std.specs.Prelude.{ℕ, ℤ, pos, negsuc, neg_ℤ, zero, suc, ◌^◌, ◌+ℤ◌, ◌-ℤ◌, ◌*ℤ◌, int_div, int_le, unsigned_abs, if◌then◌else◌, Option, Some, None}
 use Rattle.std.specs.Int.{int_rem_euclid, int_pow, int_min, int_max, int_bit_and, int_bit_or, int_bit_xor, w32}
 use Rattle.std.specs.Ordering.{int_eq}
 
@@ -25,9 +25,13 @@ negation_of x = wrapped (neg_ℤ x)
 abbrev pub quotient_of : ℤ → ℤ → Option ℤ
 quotient_of x y = if int_eq y (pos 0) then None else Some (wrapped (int_div x y))
 
--- a negative power is one divided by the exact power
+-- the power by an exponent that isn't negative
+abbrev pub raised : ℤ → ℕ → ℤ
+raised x n = wrapped (int_pow x n)
+
+-- by a negative one it is one divided by the exact power
 abbrev pub power_of : ℤ → ℤ → Option ℤ
-power_of x (pos n) = Some (wrapped (int_pow x n))
+power_of x (pos n) = Some (raised x n)
 power_of x (negsuc n) = quotient_of (pos 1) (int_pow x (suc n))
 
 -- ---- functions

@@ -47,9 +47,9 @@ abbrev pub first_place : List ℕ → List ℕ → ℕ
 first_place text part = place_from 1 text part
 
 -- ICHAR: the number of the byte of a text of one byte. CHAR: the text of one byte with this number
-abbrev pub code_of : List ℕ → Option ℕ
+abbrev pub code_of : List ℕ → Option ℤ
 code_of [] = None
-code_of (c ∷ []) = Some c
+code_of (c ∷ []) = Some (pos c)
 code_of (c ∷ d ∷ more) = None
 
 abbrev pub char_of : ℤ → Option (List ℕ)

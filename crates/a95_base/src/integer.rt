@@ -1,6 +1,6 @@
 //! Arithmetic of the 32-bit INTEGER. No call takes memory. What each one gives stands in `specs/Integer.antt`.
 ghost use Rattle.std.specs.Prelude.{◌≡◌, ◌<ℤ◌, pos};
-ghost use Rattle.a95_base.specs.Integer.{wrapped, quotient_of, remainder_of, modulo_of, power_of};
+ghost use Rattle.a95_base.specs.Integer.{wrapped, quotient_of, remainder_of, modulo_of, raised, power_of};
 
 /// What is left of a number in the 32 bits of an INTEGER: its value modulo 2^32, from -2^31 to 2^31 - 1.
 pub fn wrap32(x: i64) -> i32
@@ -48,9 +48,16 @@ pub fn power(a: i32, n: i32) -> Option<i32>
     ensures { result ≡ power_of a n }
 {
     match u32::try_from(n) {
-        Ok(exponent) => Some(a.wrapping_pow(exponent)),
+        Ok(exponent) => Some(raise(a, exponent)),
         Err(_) => inverse_power(a, n),
     }
+}
+
+/// The power by an exponent that isn't negative, wrapped.
+pub fn raise(a: i32, exponent: u32) -> i32
+    ensures { result ≡ raised a exponent }
+{
+    a.wrapping_pow(exponent)
 }
 
 // The power by a negative exponent: 1 and -1 alone have one other than 0.

@@ -16,7 +16,7 @@ mod text;
 
 pub use bytes::Bytes;
 pub use fault::FaultKind;
-pub use integer::{divide, modulo, power, remainder, wrap32};
+pub use integer::{divide, modulo, power, raise, remainder, wrap32};
 pub use laws::{integer_laws, step_laws};
 pub use limits::{GREATEST_RANK, LONGEST_TEXT, LONGEST_WORD, MOST_ELEMENTS};
 pub use scalar::{Kind, Scalar};

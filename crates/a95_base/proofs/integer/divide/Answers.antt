@@ -1,6 +1,6 @@
 use Rattle.std.proofs.Common.{FitsSigned, w32, of_z, ap, ◌∙◌, rules, Some}
 use Rattle.std.proofs.lemmas.Int.{to_z-of_z}
-use Rattle.a95_base.proofs.Powers.{divided}
+use Rattle.a95_base.proofs.Quotients.{divided}
 use Rattle.a95_base.proofs.integer.divide.Goals as goal
 
 pub returns : goal.returns
