@@ -1,5 +1,4 @@
 pub mod Lines
-pub mod Characters
 pub mod Stuck
 pub mod State
 pub mod Values

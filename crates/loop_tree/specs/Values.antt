@@ -1,8 +1,13 @@
 -- What a row reads: a value, or the stuck state.
-use Rattle.std.specs.Prelude.{ℕ, ℤ, pos, negsuc, ◌+ℤ◌, ◌-ℤ◌, ◌*ℤ◌, ◌+◌, ◌-◌, ◌^◌, Bool, true, false, not, ◌&&◌, nat_lt, nat_le, int_lt, int_le, int_div, int_rem, if◌then◌else◌, List, [], ◌∷◌, ◌++◌, length, get_or, set, replicate, Option, None, Result, Ok, Err}
-use Rattle.std.specs.Int.{w64, int_wrap, int_pow, int_bit_and, int_bit_or, int_bit_xor}
+use Rattle.std.specs.Prelude.{ℕ, ℤ, pos, negsuc, ◌+ℤ◌, ◌-ℤ◌, ◌*ℤ◌, ◌+◌, ◌-◌, Bool, true, false, not, ◌&&◌, nat_lt, nat_le, int_lt, int_le, int_div, int_rem, if◌then◌else◌, List, [], ◌∷◌, ◌++◌, length, get_or, set, replicate, Option, None, Result, Ok, Err}
+use Rattle.std.specs.Int.{w64, int_wrap, int_bit_and, int_bit_or, int_bit_xor}
 use Rattle.std.specs.Ordering.{int_eq}
-use Rattle.a95_base.specs.Integer.{wrapped}
+use Rattle.std.specs.Option.{ok_or}
+use Rattle.std.specs.declared.cmp.Ordering.{Ordering}
+use Rattle.std.specs.declared.cmp.Ordering.TheVariants.{Less, Equal, Greater}
+use Rattle.a95_base.specs.Integer.{wrapped, raised}
+use Rattle.a95_base.specs.Limits.{most_elements, longest_text}
+use Rattle.a95_base.specs.Text.{fit, compare_padded, first_place, trim, adjust_left, adjust_right, code_of, char_of, part_of, over}
 use Rattle.a95_base.specs.Input.{Reading, Integer, NoMore, NoInteger, next_value}
 use Rattle.loop_tree.specs.declared.stuck.StuckState.{StuckState}
 use Rattle.loop_tree.specs.declared.stuck.StuckState.TheVariants as stuck
@@ -18,7 +23,6 @@ use Rattle.loop_tree.specs.declared.row.IntValue.{IntValue}
 use Rattle.loop_tree.specs.declared.row.IntValue.TheVariants as int
 use Rattle.loop_tree.specs.declared.row.TextValue.{TextValue}
 use Rattle.loop_tree.specs.declared.row.TextValue.TheVariants as words
-use Rattle.loop_tree.specs.Characters.{fit, compare_padded, first_place, trim, adjust_left, adjust_right, part_of, over}
 use Rattle.loop_tree.specs.State.{Cells, Ints, Texts, Block, State, cells_at}
 
 -- ---- atoms
@@ -65,6 +69,7 @@ holds z = not (int_eq z (pos 0))
 
 -- ---- integers
 
+-- LoopC's own: an integer has 64 bits, where the language's have 32. Division cuts off towards zero and wraps
 abbrev pub quotient : ℤ → ℤ → Result ℤ StuckState
 quotient x y = if int_eq y (pos 0) then Err stuck.ZeroDivisor else Ok (int_wrap w64 (int_div x y))
 
@@ -85,9 +90,9 @@ operation operator.NotEqual x y = Ok (truth (not (int_eq x y)))
 operation operator.And x y = Ok (int_bit_and w64 x y)
 operation operator.Or x y = Ok (int_bit_or w64 x y)
 
--- the wrapped power of wrapped numbers
+-- the language's power of wrapped numbers
 abbrev pub power_of : ℤ → ℤ → Result ℤ StuckState
-power_of base (pos n) = Ok (wrapped (int_pow base n))
+power_of base (pos n) = Ok (raised base n)
 power_of base (negsuc n) = Err stuck.NegativeExponent
 
 abbrev pub power : ℤ → ℤ → Result ℤ StuckState
@@ -135,9 +140,9 @@ abbrev pub cell_count : Cells → ℕ
 cell_count (Ints cells) = length cells
 cell_count (Texts cells) = length cells
 
--- a block has at most 2 ^ 24 cells
+-- the cells of a block
 abbrev pub largest : ℕ
-largest = 2 ^ 24
+largest = most_elements
 
 abbrev pub size_within : ℕ → ℤ → Result ℕ StuckState
 size_within limit (pos n) = if nat_le n limit then Ok n else Err stuck.BlockSize
@@ -156,19 +161,15 @@ abbrev pub zeros : ℤ → Result Cells StuckState
 zeros count = and_then (size_within largest count) (λ n. Ok (Ints (replicate n (pos 0))))
 
 abbrev pub texts_of_length : ℤ → ℤ → Result Cells StuckState
-texts_of_length count size = and_then (size_within largest count) (λ n. and_then (size_within 255 size) (λ m. Ok (Texts (replicate n (replicate m 32)))))
+texts_of_length count size = and_then (size_within largest count) (λ n. and_then (size_within longest_text size) (λ m. Ok (Texts (replicate n (replicate m 32)))))
 
 -- ---- texts
 
--- the byte of a text of one byte
-abbrev pub code_of : List ℕ → Result ℤ StuckState
-code_of [] = Err stuck.OutsideText
-code_of (c ∷ []) = Ok (pos c)
-code_of (c ∷ d ∷ more) = Err stuck.OutsideText
-
-abbrev pub char_of : ℤ → Result (List ℕ) StuckState
-char_of (pos n) = if nat_lt n 256 then Ok (n ∷ []) else Err stuck.NoByte
-char_of (negsuc n) = Err stuck.NoByte
+-- -1, 0 and 1
+abbrev pub order_number : Ordering → ℤ
+order_number Less = negsuc 0
+order_number Equal = pos 0
+order_number Greater = pos 1
 
 -- the bytes from one place to another: none where the first is greater, else both are within the text
 abbrev pub sub_within : List ℕ → ℤ → ℤ → Result (List ℕ) StuckState
@@ -226,8 +227,8 @@ int_value s (int.Power a b) = power (atom_of s a) (atom_of s b)
 int_value s (int.Xor a b) = Ok (int_bit_xor w64 (atom_of s a) (atom_of s b))
 int_value s (int.Length t) = Ok (pos (length (text_of s t)))
 int_value s (int.Index t u) = Ok (pos (first_place (text_of s t) (text_of s u)))
-int_value s (int.Code t) = code_of (text_of s t)
-int_value s (int.Compare t u) = Ok (compare_padded (text_of s t) (text_of s u))
+int_value s (int.Code t) = ok_or (code_of (text_of s t)) stuck.OutsideText
+int_value s (int.Compare t u) = Ok (order_number (compare_padded (text_of s t) (text_of s u)))
 int_value s (int.Size r) = and_then (cells_at s.blocks (block_of s r)) (λ cells. Ok (pos (cell_count cells)))
 int_value s (int.Live r) = Ok (truth (is_live (cells_at s.blocks (block_of s r))))
 int_value s int.Depth = Ok (pos (length s.callers))
@@ -245,4 +246,4 @@ text_value s (words.Fit t a) = fitted (text_of s t) (atom_of s a)
 text_value s (words.Trim t) = Ok (trim (text_of s t))
 text_value s (words.Left t) = Ok (adjust_left (text_of s t))
 text_value s (words.Right t) = Ok (adjust_right (text_of s t))
-text_value s (words.Char a) = char_of (atom_of s a)
+text_value s (words.Char a) = ok_or (char_of (atom_of s a)) stuck.NoByte

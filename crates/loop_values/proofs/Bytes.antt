@@ -10,7 +10,7 @@ use Rattle.std.proofs.lemmas.Bool.Decides.{nat_tests, Decides-eqb}
 use Rattle.std.proofs.lemmas.Slice.Eq.{starts_is}
 use Rattle.memchr.specs.Find.{OccursAt}
 use Rattle.loop_values.proofs.Ends.{take_end}
-use Rattle.loop_tree.specs.Characters.{is_blank, trim, place_from}
+use Rattle.a95_base.specs.Text.{is_blank, trim, place_from}
 
 -- ---- blanks at the end
 

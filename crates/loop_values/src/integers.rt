@@ -4,7 +4,7 @@ ghost use Rattle.std.specs.Int.{w64, int_wrap, int_bit_xor};
 ghost use Rattle.a95_base.specs.Integer.{wrapped};
 ghost use Rattle.loop_tree.specs.Values.{operation, power, quotient, remainder, truth};
 
-use a95_base::wrap32;
+use a95_base::{raise, wrap32};
 use loop_tree::{Operator, StuckState};
 
 /// What is left of the sum in 64 bits.
@@ -90,7 +90,7 @@ pub fn power(x: i64, y: i64) -> Result<i64, StuckState>
     ensures { result ≡ power x y }
 {
     match u32::try_from(wrap32(y)) {
-        Ok(exponent) => Ok(wrap(wrap(x).wrapping_pow(exponent))),
+        Ok(exponent) => Ok(i64::from(raise(wrap32(x), exponent))),
         Err(_) => Err(StuckState::NegativeExponent),
     }
 }

@@ -1,6 +1,6 @@
 use Rattle.std.proofs.Common.{◌≡◌, ◌<◌, ◌≤◌, ◌+◌, ◌-◌, ℕ, pos, ◌+ℤ◌, to_z, of_z, w64, length, ap, ◌∙◌, sym, arith}
 use Rattle.std.proofs.lemmas.Int.{to_z_pos}
-use Rattle.loop_tree.specs.Characters.{first_place}
+use Rattle.a95_base.specs.Text.{first_place}
 use Rattle.loop_values.proofs.Bytes.{place_found, place_none, place_small}
 use Rattle.loop_values.proofs.texts.index.Goals as goal
 

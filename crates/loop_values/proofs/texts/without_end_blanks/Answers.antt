@@ -1,5 +1,5 @@
 use Rattle.std.proofs.Common.{◌≡◌, ◌∙◌, ℕ, List, take, sym, ap, arith}
-use Rattle.loop_tree.specs.Characters.{trim}
+use Rattle.a95_base.specs.Text.{trim}
 use Rattle.loop_values.proofs.Bytes.{trim_step, trim_stop}
 use Rattle.loop_values.proofs.texts.without_end_blanks.Goals as goal
 use Rattle.loop_values.proofs.texts.without_end_blanks.Goals.{then-loop-length-test+else-text-length-eq32, else-loop-length-test}

@@ -1,5 +1,5 @@
 use Rattle.std.proofs.Common.{◌≡◌, ◌≤◌, length, take}
-use Rattle.loop_tree.specs.Characters.{trim}
+use Rattle.a95_base.specs.Text.{trim}
 use Rattle.loop_values.proofs.texts.without_end_blanks.Given as goal
 
 abbrev pub invariant-loop-length : goal.invariant-loop-length

@@ -1,11 +1,11 @@
 use Rattle.std.proofs.Common.{◌≡◌, ◌≤◌, ◌-◌, length, drop}
-use Rattle.loop_tree.specs.Characters.{past_blanks}
+use Rattle.a95_base.specs.Text.{trim_front}
 use Rattle.loop_values.proofs.texts.without_front_blanks.Given as goal
 
 abbrev pub invariant-loop-start : goal.invariant-loop-start
 invariant-loop-start l = record {
   within : l.start ≤ length l.text;
-  same : past_blanks (drop l.start l.text) ≡ past_blanks l.text;
+  same : trim_front (drop l.start l.text) ≡ trim_front l.text;
 }
 
 abbrev pub decreases-loop-start : goal.decreases-loop-start
