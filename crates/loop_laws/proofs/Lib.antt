@@ -1,0 +1,6 @@
+pub mod Rows
+pub mod Numbered
+pub mod Braces
+pub mod Meets
+pub mod Statements
+pub mod Follows

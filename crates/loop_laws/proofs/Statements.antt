@@ -1,0 +1,185 @@
+-- Statements in front of what the rest of a run comes to. The rounds of loops are gone through here, once.
+use Rattle.std.proofs.Common.{◌≡◌, ℕ, zero, suc, ◌+◌, ◌<◌, ◌≤◌, ◌^◌, Bool, true, false, List, ◌∷◌, ◌++◌, refl, ap, ◌∙◌, sym, subst, arith, pos, nat_lt, nat_le, if◌then◌else◌}
+use Rattle.std.specs.Prelude.{negsuc, ◌+ℤ◌, ◌-ℤ◌, int_lt, int_le}
+use Rattle.std.specs.Int.{w64, int_wrap}
+use Rattle.std.proofs.Math.IntN.{ -ℤ_one}
+use Rattle.std.proofs.lemmas.Int.{int_wrap_fits}
+use Rattle.std.proofs.lemmas.Bool.Decides.{nat_tests}
+use Rattle.loop_tree.specs.declared.atom.Atom.{Atom}
+use Rattle.loop_tree.specs.declared.row.ControlRow.TheVariants as control
+use Rattle.loop_tree.specs.declared.row.Row.{Row}
+use Rattle.loop_tree.specs.declared.row.Row.TheVariants as row
+use Rattle.loop_tree.specs.declared.tree.CodeLine.{CodeLine}
+use Rattle.loop_tree.specs.declared.tree.CodeLine.TheVariants as code
+use Rattle.loop_tree.specs.declared.tree.Stmt.{Stmt}
+use Rattle.loop_tree.specs.declared.tree.Stmt.TheVariants as stmt
+use Rattle.loop_tree.specs.declared.tree.Function.{Function}
+use Rattle.loop_tree.specs.Lines.{flats}
+use Rattle.loop_tree.specs.State.{Brace, Choice, Upward, Downward, Forever, State}
+use Rattle.loop_tree.specs.Values.{number_at, holds}
+use Rattle.loop_tree.specs.Machine.{step, Place, rest_of, quiet, turn}
+use Rattle.loop_tree.specs.Run.{configuration}
+use Rattle.loop_laws.specs.At.{Variables, at, value_of, with_index}
+use Rattle.loop_laws.specs.Braces.{ClosesAt}
+use Rattle.loop_laws.specs.Meets.{Expected, Meets}
+use Rattle.loop_laws.specs.Statements.{MeetsAt, StatementLaws, Points, MeetsFrom, body_lines, UpwardRounds, UpwardLoop, index_below, DownwardRounds, DownwardLoop, EndlessRounds, EndlessLoop}
+use Rattle.loop_laws.proofs.Numbered.{with_at_same}
+use Rattle.loop_laws.proofs.Braces.{split, first_row, first_if, first_if_else, first_up, first_down, first_forever, step_if, step_if_else, step_else, step_choice_end, step_up, step_up_end, step_down, step_down_end, step_forever, step_forever_end, step_break, step_continue, end_behind}
+use Rattle.loop_laws.proofs.Meets.{silent, turned}
+
+-- other lines that are the same
+pub with_lines : {functions : List Function} {turns : ℕ} {written : List ℕ} {v : Variables} {lines new : List CodeLine} {braces : List Brace} {e : Expected} → lines ≡ new →
+    MeetsAt functions turns written v new braces e → MeetsAt functions turns written v lines braces e
+with_lines {functions} {turns} {written} {v} {lines} {new} {braces} {e} is m = subst (λ (ls : List CodeLine). MeetsAt functions turns written v ls braces e) (sym is) m
+
+pub both : {functions : List Function} {turns : ℕ} {written : List ℕ} {v : Variables} {braces : List Brace} {e : Expected} (first second : List Stmt) (lines : List CodeLine) →
+    MeetsAt functions turns written v (flats first ++ (flats second ++ lines)) braces e → MeetsAt functions turns written v (flats (first ++ second) ++ lines) braces e
+both a b lines m = with_lines (split a b lines) m
+
+pub first : {functions : List Function} {turns : ℕ} {written : List ℕ} {v : Variables} {braces : List Brace} {e : Expected} (r : Row) (more : List Stmt) (lines : List CodeLine) →
+    MeetsAt functions turns written v (code.Row r ∷ (flats more ++ lines)) braces e → MeetsAt functions turns written v (flats (stmt.Row r ∷ more) ++ lines) braces e
+first r more lines m = with_lines (first_row r more lines) m
+
+-- ---- choice
+
+-- either of two steps, neither of which begins a turn
+either : {functions : List Function} {turns : ℕ} {written : List ℕ} {s yes_state no_state : State} {e : Expected} (b : Bool) → step functions s ≡ (if b then quiet yes_state else quiet no_state) →
+    (b ≡ true → Meets functions (configuration turns written yes_state) e) → (b ≡ false → Meets functions (configuration turns written no_state) e) → Meets functions (configuration turns written s) e
+either true is m n = silent is (m refl)
+either false is m n = silent is (n refl)
+
+pub chooses : {functions : List Function} {turns : ℕ} {written : List ℕ} {v : Variables} {braces : List Brace} {e : Expected} (test : Atom) (body more : List Stmt) (lines : List CodeLine) →
+    (holds (value_of v test) ≡ true → MeetsAt functions turns written v (flats body ++ code.Close ∷ (flats more ++ lines)) (Choice ∷ braces) e) →
+    (holds (value_of v test) ≡ false → MeetsAt functions turns written v (flats more ++ lines) braces e) →
+    MeetsAt functions turns written v (flats (stmt.If test body ∷ more) ++ lines) braces e
+chooses {functions} {turns} {written} {v} {braces} {e} test body more lines m n =
+    with_lines (first_if test body more lines) (either (holds (value_of v test)) (step_if test body (flats more ++ lines) braces functions v) m n)
+
+pub chooses_either : {functions : List Function} {turns : ℕ} {written : List ℕ} {v : Variables} {braces : List Brace} {e : Expected} (test : Atom) (body other more : List Stmt) (lines : List CodeLine) →
+    (holds (value_of v test) ≡ true → MeetsAt functions turns written v (flats body ++ code.Else ∷ (flats other ++ code.Close ∷ (flats more ++ lines))) (Choice ∷ braces) e) →
+    (holds (value_of v test) ≡ false → MeetsAt functions turns written v (flats other ++ code.Close ∷ (flats more ++ lines)) (Choice ∷ braces) e) →
+    MeetsAt functions turns written v (flats (stmt.IfElse test body other ∷ more) ++ lines) braces e
+chooses_either {functions} {turns} {written} {v} {braces} {e} test body other more lines m n =
+    with_lines (first_if_else test body other more lines) (either (holds (value_of v test)) (step_if_else test body (flats other ++ code.Close ∷ (flats more ++ lines)) braces functions v) m n)
+
+pub past_else : {functions : List Function} {turns : ℕ} {written : List ℕ} {v : Variables} {lines : List CodeLine} {braces : List Brace} {e : Expected} (other : List Stmt) →
+    MeetsAt functions turns written v lines braces e → MeetsAt functions turns written v (code.Else ∷ (flats other ++ code.Close ∷ lines)) (Choice ∷ braces) e
+past_else {functions} {turns} {written} {v} {lines} {braces} other m = silent (step_else other lines braces functions v) m
+
+pub past_close : {functions : List Function} {turns : ℕ} {written : List ℕ} {v : Variables} {lines : List CodeLine} {braces : List Brace} {e : Expected} →
+    MeetsAt functions turns written v lines braces e → MeetsAt functions turns written v (code.Close ∷ lines) (Choice ∷ braces) e
+past_close {functions} {turns} {written} {v} {lines} {braces} m = silent (step_choice_end lines braces functions v) m
+
+-- ---- break and continue
+
+pub breaks : {functions : List Function} {turns : ℕ} {written : List ℕ} {v : Variables} {lines : List CodeLine} {braces : List Brace} {e : Expected} {place : Place} (more : List Stmt) →
+    ClosesAt lines braces place → MeetsAt functions turns written v (rest_of place.lines) (rest_of place.braces) e →
+    MeetsAt functions turns written v (flats (stmt.Row (row.Control control.Break) ∷ more) ++ lines) braces e
+breaks {functions} {turns} {written} {v} {lines} {braces} {e} {place} more closes m =
+    first (row.Control control.Break) more lines (silent (step_break (flats more ++ lines) braces place (end_behind more closes) functions v) m)
+
+pub continues : {functions : List Function} {turns : ℕ} {written : List ℕ} {v : Variables} {lines : List CodeLine} {braces : List Brace} {e : Expected} {place : Place} (more : List Stmt) →
+    ClosesAt lines braces place → MeetsAt functions turns written v place.lines place.braces e →
+    MeetsAt functions turns written v (flats (stmt.Row (row.Control control.Continue) ∷ more) ++ lines) braces e
+continues {functions} {turns} {written} {v} {lines} {braces} {e} {place} more closes m =
+    first (row.Control control.Continue) more lines (silent (step_continue (flats more ++ lines) braces place (end_behind more closes) functions v) m)
+
+pub statement_laws : StatementLaws
+statement_laws = record { both = both; first = first; chooses = chooses; chooses_either = chooses_either; past_else = past_else; past_close = past_close; breaks = breaks; continues = continues }
+
+-- ---- loops
+
+-- what a loop variable goes through
+next_index : (i : ℕ) → i + 1 < 2 ^ 63 → int_wrap w64 (pos i +ℤ pos 1) ≡ pos (suc i)
+next_index i h =
+    let one : i + 1 ≡ suc i = omega arith in
+    int_wrap_fits w64 (pos (i + 1)) (omega arith) ∙ ap pos one
+
+index_before : (j : ℕ) → j < 2 ^ 63 → int_wrap w64 (pos j -ℤ pos 1) ≡ index_below j
+index_before zero h = int_wrap_fits w64 (negsuc 0) (omega arith)
+index_before (suc j) h = ap (int_wrap w64) (-ℤ_one (pos (suc j))) ∙ int_wrap_fits w64 (pos j) (omega arith)
+
+not_negative : (j : ℕ) → int_le (pos 0) (pos j) ≡ true
+not_negative j = let h : nat_le 0 j ≡ true = grind (arith, nat_tests) in h
+
+module _ {P : Type 0} (points : Points P) (functions : List Function) (k : ℕ) (bound : Atom) (body : List Stmt) (count : ℕ) (lines : List CodeLine) (braces : List Brace) where
+  -- from the test of a round on, wherever it stands
+  up_rounds : count < 2 ^ 63 → UpwardRounds P points functions k bound body count lines braces → (left : ℕ) (p : P) (v : Variables) → points.number p + left ≡ count → points.variables p ≡ v →
+      number_at v.indices k ≡ pos (points.number p) → (s : State) →
+      step functions s ≡ (if int_lt (pos (points.number p)) (value_of v bound) then turn (at v (body_lines body lines) (Upward k bound (body_lines body lines) ∷ braces)) else quiet (at v lines braces)) →
+      Meets functions (configuration (points.turns p) (points.written p) s) (points.expected p)
+  up_rounds small r zero p v e is index s next =
+      let now : number_at (points.variables p).indices k ≡ pos (points.number p) = ap (λ (x : Variables). number_at x.indices k) is ∙ index in
+      let top : value_of v bound ≡ pos count = ap (λ (x : Variables). value_of x bound) (sym is) ∙ r.bounded p now in
+      let over : nat_lt (points.number p) count ≡ false = grind (arith, nat_tests) in
+      let none : int_lt (pos (points.number p)) (value_of v bound) ≡ false = ap (int_lt (pos (points.number p))) top ∙ over in
+      silent (next ∙ rw none) (subst (λ (x : Variables). MeetsFrom functions points p x lines braces) is (r.left p (omega arith)))
+  up_rounds small r (suc left) p v e is index s next =
+      let now : number_at (points.variables p).indices k ≡ pos (points.number p) = ap (λ (x : Variables). number_at x.indices k) is ∙ index in
+      let top : value_of v bound ≡ pos count = ap (λ (x : Variables). value_of x bound) (sym is) ∙ r.bounded p now in
+      let within : points.number p < count = omega arith in
+      let below : nat_lt (points.number p) count ≡ true = grind (arith, nat_tests) in
+      let some : int_lt (pos (points.number p)) (value_of v bound) ≡ true = ap (int_lt (pos (points.number p))) top ∙ below in
+      let small_number : points.number p + 1 < 2 ^ 63 = omega arith in
+      turned (next ∙ rw some) (subst (λ (x : Variables). MeetsAt functions (points.turns p + 1) (points.written p) x (body_lines body lines) (Upward k bound (body_lines body lines) ∷ braces) (points.expected p)) is
+      (r.round p within now (λ q w number there variables.
+      let z = int_wrap w64 (number_at w.indices k +ℤ pos 1) in
+      let one : z ≡ pos (points.number q) = ap (λ i. int_wrap w64 (i +ℤ pos 1)) there ∙ next_index (points.number p) small_number ∙ ap pos (sym number) in
+      let same : with_index w k (pos (points.number q)) ≡ with_index w k z = ap (with_index w k) (sym one) in
+      up_rounds small r left q (with_index w k z) (omega (arith, number)) (variables ∙ same) (with_at_same (pos 0) w.indices k z ∙ one) (at w (code.Close ∷ lines) (Upward k bound (body_lines body lines) ∷ braces))
+      (step_up_end k bound (body_lines body lines) lines braces functions w
+      ∙ ap (λ i. if int_lt i (value_of (with_index w k z) bound) then turn (at (with_index w k z) (body_lines body lines) (Upward k bound (body_lines body lines) ∷ braces)) else quiet (at (with_index w k z) lines braces)) one))))
+
+pub upward_loop : {P : Type 0} → UpwardLoop P
+upward_loop points functions k bound body more count lines braces small r p v number variables =
+    with_lines (first_up k bound body more lines)
+    (up_rounds points functions k bound body count (flats more ++ lines) braces small r count p (with_index v k (pos 0)) (omega (arith, number)) variables
+    (with_at_same (pos 0) v.indices k (pos 0) ∙ ap pos (sym number)) (at v (code.ForUp k bound ∷ (flats body ++ code.Close ∷ (flats more ++ lines))) braces)
+    (step_up k bound body (flats more ++ lines) braces functions v
+    ∙ ap (λ i. if int_lt (pos i) (value_of (with_index v k (pos 0)) bound) then turn (at (with_index v k (pos 0)) (body_lines body (flats more ++ lines)) (Upward k bound (body_lines body (flats more ++ lines)) ∷ braces))
+    else quiet (at (with_index v k (pos 0)) (flats more ++ lines) braces)) (sym number)))
+
+module _ {P : Type 0} (points : Points P) (functions : List Function) (k : ℕ) (body : List Stmt) (count : ℕ) (lines : List CodeLine) (braces : List Brace) where
+  down_rounds : count < 2 ^ 63 → DownwardRounds P points functions k body count lines braces → (left : ℕ) (p : P) (v : Variables) → points.number p ≡ left → left ≤ count → points.variables p ≡ v →
+      number_at v.indices k ≡ index_below left → (s : State) →
+      step functions s ≡ (if int_le (pos 0) (index_below left) then turn (at v (body_lines body lines) (Downward k (body_lines body lines) ∷ braces)) else quiet (at v lines braces)) →
+      Meets functions (configuration (points.turns p) (points.written p) s) (points.expected p)
+  down_rounds small r zero p v number within is index s next =
+      silent next (subst (λ (x : Variables). MeetsFrom functions points p x lines braces) is (r.left p number))
+  down_rounds small r (suc j) p v number within is index s next =
+      let now : number_at (points.variables p).indices k ≡ pos j = ap (λ (x : Variables). number_at x.indices k) is ∙ index in
+      let small_number : j < 2 ^ 63 = omega arith in
+      turned (next ∙ rw (not_negative j)) (subst (λ (x : Variables). MeetsAt functions (points.turns p + 1) (points.written p) x (body_lines body lines) (Downward k (body_lines body lines) ∷ braces) (points.expected p)) is
+      (r.round p j (omega arith) number now (λ q w fewer there variables.
+      let z = int_wrap w64 (number_at w.indices k -ℤ pos 1) in
+      let one : z ≡ index_below j = ap (λ i. int_wrap w64 (i -ℤ pos 1)) there ∙ index_before j small_number in
+      let same : with_index w k (index_below j) ≡ with_index w k z = ap (with_index w k) (sym one) in
+      down_rounds small r j q (with_index w k z) fewer (omega arith) (variables ∙ same) (with_at_same (pos 0) w.indices k z ∙ one) (at w (code.Close ∷ lines) (Downward k (body_lines body lines) ∷ braces))
+      (step_down_end k (body_lines body lines) lines braces functions w
+      ∙ ap (λ i. if int_le (pos 0) i then turn (at (with_index w k z) (body_lines body lines) (Downward k (body_lines body lines) ∷ braces)) else quiet (at (with_index w k z) lines braces)) one))))
+
+pub downward_loop : {P : Type 0} → DownwardLoop P
+downward_loop points functions k bound body more count lines braces small r p v top number variables =
+    let z = int_wrap w64 (value_of v bound -ℤ pos 1) in
+    let one : z ≡ index_below count = ap (λ i. int_wrap w64 (i -ℤ pos 1)) top ∙ index_before count small in
+    let same : with_index v k (index_below count) ≡ with_index v k z = ap (with_index v k) (sym one) in
+    with_lines (first_down k bound body more lines)
+    (down_rounds points functions k body count (flats more ++ lines) braces small r count p (with_index v k z) number (omega arith) (variables ∙ same)
+    (with_at_same (pos 0) v.indices k z ∙ one) (at v (code.ForDown k bound ∷ (flats body ++ code.Close ∷ (flats more ++ lines))) braces)
+    (step_down k bound body (flats more ++ lines) braces functions v
+    ∙ ap (λ i. if int_le (pos 0) i then turn (at (with_index v k z) (body_lines body (flats more ++ lines)) (Downward k (body_lines body (flats more ++ lines)) ∷ braces)) else quiet (at (with_index v k z) (flats more ++ lines) braces)) one))
+
+module _ {P : Type 0} (points : Points P) (functions : List Function) (body : List Stmt) (lines : List CodeLine) (braces : List Brace) where
+  endless_rounds : EndlessRounds P points functions body lines braces → (most : ℕ) (p : P) (v : Variables) → points.number p < most → points.variables p ≡ v → (s : State) →
+      step functions s ≡ turn (at v (body_lines body lines) (Forever (body_lines body lines) ∷ braces)) → Meets functions (configuration (points.turns p) (points.written p) s) (points.expected p)
+  endless_rounds r zero p v h is s next = absurd (omega arith)
+  endless_rounds r (suc most) p v h is s next =
+      turned next (subst (λ (x : Variables). MeetsAt functions (points.turns p + 1) (points.written p) x (body_lines body lines) (Forever (body_lines body lines) ∷ braces) (points.expected p)) is
+      (r.round p (λ q w fewer variables.
+      endless_rounds r most q w (omega arith) variables (at w (code.Close ∷ lines) (Forever (body_lines body lines) ∷ braces)) (step_forever_end (body_lines body lines) lines braces functions w))))
+
+pub endless_loop : {P : Type 0} → EndlessLoop P
+endless_loop points functions body more lines braces r p =
+    with_lines (first_forever body more lines)
+    (endless_rounds points functions body (flats more ++ lines) braces r (suc (points.number p)) p (points.variables p) (omega arith) refl (at (points.variables p) (code.Forever ∷ (flats body ++ code.Close ∷ (flats more ++ lines))) braces)
+    (step_forever (body_lines body (flats more ++ lines)) braces functions (points.variables p)))

@@ -1,0 +1,121 @@
+-- What a run comes to from before a statement, where it is known what it comes to from where the statement leads.
+use Rattle.std.specs.Prelude.{◌≡◌, ℕ, zero, suc, ◌+◌, ◌<◌, ◌^◌, ℤ, pos, negsuc, true, false, List, ◌∷◌, ◌++◌}
+use Rattle.loop_tree.specs.declared.atom.Atom.{Atom}
+use Rattle.loop_tree.specs.declared.row.ControlRow.TheVariants as control
+use Rattle.loop_tree.specs.declared.row.Row.{Row}
+use Rattle.loop_tree.specs.declared.row.Row.TheVariants as row
+use Rattle.loop_tree.specs.declared.tree.CodeLine.{CodeLine}
+use Rattle.loop_tree.specs.declared.tree.CodeLine.TheVariants as code
+use Rattle.loop_tree.specs.declared.tree.Stmt.{Stmt}
+use Rattle.loop_tree.specs.declared.tree.Stmt.TheVariants as stmt
+use Rattle.loop_tree.specs.declared.tree.Function.{Function}
+use Rattle.loop_tree.specs.Lines.{flats}
+use Rattle.loop_tree.specs.State.{Brace, Choice, Upward, Downward, Forever}
+use Rattle.loop_tree.specs.Values.{number_at, holds}
+use Rattle.loop_tree.specs.Machine.{Place, rest_of}
+use Rattle.loop_tree.specs.Run.{configuration}
+use Rattle.loop_laws.specs.At.{Variables, at, value_of, with_index}
+use Rattle.loop_laws.specs.Braces.{ClosesAt}
+use Rattle.loop_laws.specs.Meets.{Expected, Meets}
+
+-- the run that has begun so many turns and written this, with these variables before these lines within these braces
+abbrev pub MeetsAt : List Function → ℕ → List ℕ → Variables → List CodeLine → List Brace → Expected → Type 0
+MeetsAt functions turns written v lines braces e = Meets functions (configuration turns written (at v lines braces)) e
+
+pub record StatementLaws : Type 0 where
+  -- the lines of two lists of statements, and of a row in front of others
+  pub both : {functions : List Function} {turns : ℕ} {written : List ℕ} {v : Variables} {braces : List Brace} {e : Expected} (first second : List Stmt) (lines : List CodeLine) →
+      MeetsAt functions turns written v (flats first ++ (flats second ++ lines)) braces e → MeetsAt functions turns written v (flats (first ++ second) ++ lines) braces e
+  pub first : {functions : List Function} {turns : ℕ} {written : List ℕ} {v : Variables} {braces : List Brace} {e : Expected} (r : Row) (more : List Stmt) (lines : List CodeLine) →
+      MeetsAt functions turns written v (code.Row r ∷ (flats more ++ lines)) braces e → MeetsAt functions turns written v (flats (stmt.Row r ∷ more) ++ lines) braces e
+  -- a choice
+  pub chooses : {functions : List Function} {turns : ℕ} {written : List ℕ} {v : Variables} {braces : List Brace} {e : Expected} (test : Atom) (body more : List Stmt) (lines : List CodeLine) →
+      (holds (value_of v test) ≡ true → MeetsAt functions turns written v (flats body ++ code.Close ∷ (flats more ++ lines)) (Choice ∷ braces) e) →
+      (holds (value_of v test) ≡ false → MeetsAt functions turns written v (flats more ++ lines) braces e) →
+      MeetsAt functions turns written v (flats (stmt.If test body ∷ more) ++ lines) braces e
+  pub chooses_either : {functions : List Function} {turns : ℕ} {written : List ℕ} {v : Variables} {braces : List Brace} {e : Expected} (test : Atom) (body other more : List Stmt) (lines : List CodeLine) →
+      (holds (value_of v test) ≡ true → MeetsAt functions turns written v (flats body ++ code.Else ∷ (flats other ++ code.Close ∷ (flats more ++ lines))) (Choice ∷ braces) e) →
+      (holds (value_of v test) ≡ false → MeetsAt functions turns written v (flats other ++ code.Close ∷ (flats more ++ lines)) (Choice ∷ braces) e) →
+      MeetsAt functions turns written v (flats (stmt.IfElse test body other ∷ more) ++ lines) braces e
+  -- the end of its first branch, and of its last
+  pub past_else : {functions : List Function} {turns : ℕ} {written : List ℕ} {v : Variables} {lines : List CodeLine} {braces : List Brace} {e : Expected} (other : List Stmt) →
+      MeetsAt functions turns written v lines braces e → MeetsAt functions turns written v (code.Else ∷ (flats other ++ code.Close ∷ lines)) (Choice ∷ braces) e
+  pub past_close : {functions : List Function} {turns : ℕ} {written : List ℕ} {v : Variables} {lines : List CodeLine} {braces : List Brace} {e : Expected} →
+      MeetsAt functions turns written v lines braces e → MeetsAt functions turns written v (code.Close ∷ lines) (Choice ∷ braces) e
+  -- break and continue
+  pub breaks : {functions : List Function} {turns : ℕ} {written : List ℕ} {v : Variables} {lines : List CodeLine} {braces : List Brace} {e : Expected} {place : Place} (more : List Stmt) →
+      ClosesAt lines braces place → MeetsAt functions turns written v (rest_of place.lines) (rest_of place.braces) e →
+      MeetsAt functions turns written v (flats (stmt.Row (row.Control control.Break) ∷ more) ++ lines) braces e
+  pub continues : {functions : List Function} {turns : ℕ} {written : List ℕ} {v : Variables} {lines : List CodeLine} {braces : List Brace} {e : Expected} {place : Place} (more : List Stmt) →
+      ClosesAt lines braces place → MeetsAt functions turns written v place.lines place.braces e →
+      MeetsAt functions turns written v (flats (stmt.Row (row.Control control.Continue) ∷ more) ++ lines) braces e
+
+-- ---- loops
+
+-- The points at which a round of a loop begins or the loop is left: the number that tells how many rounds came before or
+-- are left, the variables there, the turns that were begun and all that was written before, and what is expected from there on.
+-- A point may be any type: what is known at each is a part of it.
+pub record Points (P : Type 0) : Type 0 where
+  pub number : P → ℕ
+  pub variables : P → Variables
+  pub turns : P → ℕ
+  pub written : P → List ℕ
+  pub expected : P → Expected
+
+-- from a point on, with these lines to come; and with variables w on the way to it
+abbrev pub MeetsFrom : {P : Type 0} → List Function → Points P → P → Variables → List CodeLine → List Brace → Type 0
+MeetsFrom functions points p w lines braces = MeetsAt functions (points.turns p) (points.written p) w lines braces (points.expected p)
+
+-- from a point on, when the turn of its round was begun
+abbrev pub MeetsInRound : {P : Type 0} → List Function → Points P → P → List CodeLine → List Brace → Type 0
+MeetsInRound functions points p lines braces = MeetsAt functions (points.turns p + 1) (points.written p) (points.variables p) lines braces (points.expected p)
+
+-- the lines from a loop's body on, where the loop stands before these lines
+abbrev pub body_lines : List Stmt → List CodeLine → List CodeLine
+body_lines body lines = flats body ++ code.Close ∷ lines
+
+-- A loop over 0, 1, .., count - 1, whose bound is the count at each test. Points are numbered by the rounds before them.
+-- A round goes to any next point, or where it leads otherwise: out of the loop by a break, out of the call, or to an end.
+pub record UpwardRounds (P : Type 0) (points : Points P) (functions : List Function) (k : ℕ) (bound : Atom) (body : List Stmt) (count : ℕ) (lines : List CodeLine) (braces : List Brace) : Type 0 where
+  pub bounded : (p : P) → number_at (points.variables p).indices k ≡ pos (points.number p) → value_of (points.variables p) bound ≡ pos count
+  pub round : (p : P) → points.number p < count → number_at (points.variables p).indices k ≡ pos (points.number p) →
+      ((q : P) (w : Variables) → points.number q ≡ suc (points.number p) → number_at w.indices k ≡ pos (points.number p) → points.variables q ≡ with_index w k (pos (points.number q)) →
+      MeetsFrom functions points q w (code.Close ∷ lines) (Upward k bound (body_lines body lines) ∷ braces)) →
+      MeetsInRound functions points p (body_lines body lines) (Upward k bound (body_lines body lines) ∷ braces)
+  pub left : (p : P) → points.number p ≡ count → MeetsFrom functions points p (points.variables p) lines braces
+
+abbrev pub UpwardLoop : (P : Type 0) → Type 0
+UpwardLoop P = (points : Points P) (functions : List Function) (k : ℕ) (bound : Atom) (body more : List Stmt) (count : ℕ) (lines : List CodeLine) (braces : List Brace) →
+    count < 2 ^ 63 → UpwardRounds P points functions k bound body count (flats more ++ lines) braces →
+    (p : P) (v : Variables) → points.number p ≡ 0 → points.variables p ≡ with_index v k (pos 0) →
+    MeetsFrom functions points p v (flats (stmt.ForUp k bound body ∷ more) ++ lines) braces
+
+-- A loop over count - 1, .., 1, 0. Points are numbered by the rounds that are left; where none is, the variable is -1.
+abbrev pub index_below : ℕ → ℤ
+index_below zero = negsuc 0
+index_below (suc j) = pos j
+
+pub record DownwardRounds (P : Type 0) (points : Points P) (functions : List Function) (k : ℕ) (body : List Stmt) (count : ℕ) (lines : List CodeLine) (braces : List Brace) : Type 0 where
+  pub round : (p : P) (j : ℕ) → j < count → points.number p ≡ suc j → number_at (points.variables p).indices k ≡ pos j →
+      ((q : P) (w : Variables) → points.number q ≡ j → number_at w.indices k ≡ pos j → points.variables q ≡ with_index w k (index_below j) →
+      MeetsFrom functions points q w (code.Close ∷ lines) (Downward k (body_lines body lines) ∷ braces)) →
+      MeetsInRound functions points p (body_lines body lines) (Downward k (body_lines body lines) ∷ braces)
+  pub left : (p : P) → points.number p ≡ 0 → MeetsFrom functions points p (points.variables p) lines braces
+
+abbrev pub DownwardLoop : (P : Type 0) → Type 0
+DownwardLoop P = (points : Points P) (functions : List Function) (k : ℕ) (bound : Atom) (body more : List Stmt) (count : ℕ) (lines : List CodeLine) (braces : List Brace) →
+    count < 2 ^ 63 → DownwardRounds P points functions k body count (flats more ++ lines) braces →
+    (p : P) (v : Variables) → value_of v bound ≡ pos count → points.number p ≡ count → points.variables p ≡ with_index v k (index_below count) →
+    MeetsFrom functions points p v (flats (stmt.ForDown k bound body ∷ more) ++ lines) braces
+
+-- A loop that only its body leaves. Points are numbered by anything that falls from round to round, as the turns that are
+-- left: at a point from which no round may lead to another, the body comes to what is expected in another way.
+pub record EndlessRounds (P : Type 0) (points : Points P) (functions : List Function) (body : List Stmt) (lines : List CodeLine) (braces : List Brace) : Type 0 where
+  pub round : (p : P) →
+      ((q : P) (w : Variables) → points.number q < points.number p → points.variables q ≡ w → MeetsFrom functions points q w (code.Close ∷ lines) (Forever (body_lines body lines) ∷ braces)) →
+      MeetsInRound functions points p (body_lines body lines) (Forever (body_lines body lines) ∷ braces)
+
+abbrev pub EndlessLoop : (P : Type 0) → Type 0
+EndlessLoop P = (points : Points P) (functions : List Function) (body more : List Stmt) (lines : List CodeLine) (braces : List Brace) →
+    EndlessRounds P points functions body (flats more ++ lines) braces →
+    (p : P) → MeetsFrom functions points p (points.variables p) (flats (stmt.Forever body ∷ more) ++ lines) braces

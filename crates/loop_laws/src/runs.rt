@@ -1,0 +1,40 @@
+//! What a run comes to, proved from its end to its beginning.
+
+ghost use Rattle.loop_laws.specs.Meets.{StepLaws, EndLaws};
+ghost use Rattle.loop_laws.specs.Statements.{StatementLaws, UpwardLoop, DownwardLoop, EndlessLoop};
+
+/// A step in front of what the rest of a run comes to.
+#[tactic(auto, using(crate::proofs::Meets::step_laws))]
+pub fn steps_in_front<A>()
+    ensures { StepLaws A }
+{}
+
+/// Where a run ends, or begins more turns than the limit.
+#[tactic(auto, using(crate::proofs::Meets::end_laws))]
+pub fn ends()
+    ensures { EndLaws }
+{}
+
+/// A statement in front of what the rest of a run comes to.
+#[tactic(auto, using(crate::proofs::Statements::statement_laws))]
+pub fn statements_in_front()
+    ensures { StatementLaws }
+{}
+
+/// A loop over 0, 1 and so on, from a law of its rounds.
+#[tactic(auto, using(crate::proofs::Statements::upward_loop))]
+pub fn upward_loop<P>()
+    ensures { UpwardLoop P }
+{}
+
+/// A loop over the same numbers, the greatest first.
+#[tactic(auto, using(crate::proofs::Statements::downward_loop))]
+pub fn downward_loop<P>()
+    ensures { DownwardLoop P }
+{}
+
+/// A loop that only its body leaves.
+#[tactic(auto, using(crate::proofs::Statements::endless_loop))]
+pub fn endless_loop<P>()
+    ensures { EndlessLoop P }
+{}
