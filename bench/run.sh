@@ -3,17 +3,18 @@
 # function, which CPython reaches faster. Then it times the reading of long texts, and measures the memory of a large block.
 # It is run by hand:
 #
-#   bench/run.sh               five runs of each, 3,000,000 turns a run: some two minutes
-#   bench/run.sh 9 10          nine runs of each, 10,000,000 turns a run
+#   bench/run.sh               five runs of each: some two minutes
+#   bench/run.sh 9             nine runs of each
 #   F95A=FILE bench/run.sh     the same with another build of the program, as that of an older commit
 #   bench/run.sh texts FOLDER  only writes the texts and the scripts into FOLDER, with 10,000 turns each
 #
 # It needs the program at crates/f95a/out/f95a (README.md says how it gets there), python3 and GNU time.
 #
-# A turn is an entry into a loop's body, or a call. Each shape has as many rounds as make about that number of turns, outer
-# loops counted. A shape's time is the least of the runs, less the least time of the same text with no rounds: so neither start
-# nor reading is in it. The three take turns within a run, so that a slow moment of the machine meets all of them. What a shape
-# prints must be what CPython prints. Go by the two ratios, how many times as long CPython takes: times alone compare machines.
+# A turn is an entry into a loop's body, or a call. Each shape has as many rounds as make 3,000,000 turns in CPython and ten times
+# as many in `f95a`, outer loops counted. A shape's time is the least of the runs, less the least time of the same text with no
+# rounds: so neither start nor reading is in it. The three take turns within a run, so that a slow moment of the machine meets all
+# of them. What a shape prints must be what CPython prints after as many rounds. The table has nanoseconds a turn. Go by its two
+# ratios, how many times as long CPython takes: times alone compare machines.
 set -eu
 cd "$(dirname "$0")/.."
 program=${F95A:-$PWD/crates/f95a/out/f95a}
@@ -399,6 +400,7 @@ write_shape() { # name, turns, folder
     local turns=turns_$1
     echo $(($2 / ${!turns} + 1)) > "$3/$1.rounds"
     "loopc_$1" "$(cat "$3/$1.rounds")" > "$3/$1.loopc"
+    "loopc_$1" "$(cat "$3/$1.rounds")0" > "$3/$1.long.loopc"
     "loopc_$1" 0 > "$3/$1.none.loopc"
     { echo 'import sys'; echo 'rounds = int(sys.argv[1])'; "python_$1"; } > "$3/$1.py"
     { echo 'def work():'; sed 's/^/    /' "$3/$1.py"; echo 'work()'; } > "$3/$1.local.py"
@@ -410,7 +412,6 @@ if [ "${1-}" = texts ]; then
     exit 0
 fi
 runs=${1:-5}
-millions=${2:-3}
 [ -x "$program" ] || { echo "run.sh: no program at $program"; exit 1; }
 python=$(python3 -c 'import sys; print(sys.executable)') # and no script that finds it
 work=$(mktemp -d)
@@ -425,14 +426,13 @@ least() { # file for the least time in nanoseconds so far, file for the output, 
     if [ ! -s "$least" ] || [ "$spent" -lt "$(cat "$least")" ]; then echo "$spent" > "$least"; fi
 }
 
-form='%-10s %11s %9s %9s %11s %11s %12s %14s\n'
-# shellcheck disable=SC2059
-printf "$form" shape turns 'f95a s' 'script s' 'function s' 'million/s' 'script/f95a' 'function/f95a'
+printf '%-10s %9s %10s %12s %10s %12s %14s\n' shape 'f95a ns' 'script ns' 'function ns' 'million/s' 'script/f95a' 'function/f95a'
 for name in $shapes; do
-    write_shape "$name" $((millions * 1000000)) "$work"
+    write_shape "$name" 3000000 "$work"
     rounds=$(cat "$work/$name.rounds")
+    "$program" run "$work/$name.loopc" > "$work/ours" < /dev/null
     for _ in $(seq "$runs"); do
-        least "$work/$name.ours" "$work/ours" "$program" run "$work/$name.loopc"
+        least "$work/$name.ours" "$work/none" "$program" run "$work/$name.long.loopc"
         least "$work/$name.script" "$work/script" "$python" "$work/$name.py" "$rounds"
         least "$work/$name.named" "$work/named" "$python" "$work/$name.local.py" "$rounds"
         least "$work/$name.ours0" "$work/none" "$program" run "$work/$name.none.loopc"
@@ -445,8 +445,9 @@ for name in $shapes; do
     spent() { echo $(($(cat "$work/$name.$1") - $(cat "$work/$name.${1}0"))); } # nanoseconds, less those with no rounds
     all=$((rounds * ${!turns}))
     awk -v name="$name" -v turns="$all" -v ours="$(spent ours)" -v script="$(spent script)" -v named="$(spent named)" 'BEGIN {
-        printf "%-10s %11d %9.3f %9.3f %11.3f %11.1f %12.1f %14.1f\n",
-            name, turns, ours / 1e9, script / 1e9, named / 1e9, turns / ours * 1e3, script / ours, named / ours }'
+        ours = ours / turns / 10; script = script / turns; named = named / turns
+        printf "%-10s %9.1f %10.1f %12.1f %10.1f %12.1f %14.1f\n",
+            name, ours, script, named, 1e3 / ours, script / ours, named / ours }'
 done
 
 # texts of 128 KiB and 1 MiB, of which nothing is executed but the first line
