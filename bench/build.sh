@@ -7,10 +7,13 @@
 #   F95A=FILE bench/build.sh     the same with another build of the program, as that of an older commit
 #   bench/build.sh texts FOLDER  only writes the sources into FOLDER, of 16 KiB each
 #
-# It needs the program at crates/f95a/out/f95a (README.md says how it gets there) and GNU time. The time is the least of the
-# runs, from the start of the program to its end, with the text written to a file; the memory is the most that a run held.
-# Times alone compare machines: go by how the shapes compare, and how the two sizes do.
+# FILE is a path from the top of the repository. Without it the program must be at crates/f95a/out/f95a (README.md says how it gets
+# there). The script needs GNU time.
+#
+# The time is the least of the runs, from the start of the program to its end, with the text written to a file; the memory is the
+# most that a run held. Times alone compare machines: go by how the shapes compare, and how the two sizes do.
 set -eu
+export LC_ALL=C
 cd "$(dirname "$0")/.."
 program=${F95A:-$PWD/crates/f95a/out/f95a}
 shapes="assignments dense declarations names prints wide long"

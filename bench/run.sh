@@ -8,7 +8,8 @@
 #   F95A=FILE bench/run.sh     the same with another build of the program, as that of an older commit
 #   bench/run.sh texts FOLDER  only writes the texts and the scripts into FOLDER, with 10,000 turns each
 #
-# It needs the program at crates/f95a/out/f95a (README.md says how it gets there), python3 and GNU time.
+# FILE is a path from the top of the repository. Without it the program must be at crates/f95a/out/f95a (README.md says how it gets
+# there). The script needs python3 and GNU time.
 #
 # A turn is an entry into a loop's body, or a call. Each shape has as many rounds as make 3,000,000 turns in CPython and ten times
 # as many in `f95a`, outer loops counted. A shape's time is the least of the runs, less the least time of the same text with no
@@ -16,6 +17,7 @@
 # of them. What a shape prints must be what CPython prints after as many rounds. The table has nanoseconds a turn. Go by its two
 # ratios, how many times as long CPython takes: times alone compare machines.
 set -eu
+export LC_ALL=C
 cd "$(dirname "$0")/.."
 program=${F95A:-$PWD/crates/f95a/out/f95a}
 shapes="long short nested downward while pieces if texts calls stencil"
