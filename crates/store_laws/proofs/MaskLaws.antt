@@ -7,7 +7,7 @@ use Rattle.store_laws.proofs.StoreLaws.{then_then, then_same, either_order}
 use Rattle.store_laws.proofs.TemporaryLaws.{reached, ok_is}
 
 -- what stops a run of two steps is the one or the other
-stopped : {A B F : Type 0} (r : Result A F) (go : A → Result B F) (stop : F) → and_then r go ≡ Err stop → (r ≡ Err stop) ⊎ ((a : A) × ((r ≡ Ok a) × (go a ≡ Err stop)))
+pub stopped : {A B F : Type 0} (r : Result A F) (go : A → Result B F) (stop : F) → and_then r go ≡ Err stop → (r ≡ Err stop) ⊎ ((a : A) × ((r ≡ Ok a) × (go a ≡ Err stop)))
 stopped (Ok a) go stop is = inr (a, (refl, is))
 stopped (Err other) go stop is = let same : other ≡ stop = cc in inl (ap Err same)
 
