@@ -1,97 +1,159 @@
--- From steps in a row to the run of a program.
-use Rattle.std.proofs.Common.{◌≡◌, inl, inr, ℕ, ◌≤◌, List, [], ◌∷◌, ◌++◌, take, drop, Option, refl, ap, ◌∙◌, sym, subst, arith, append-nil, append_assoc}
-use Rattle.std.proofs.lemmas.List.{take-append-drop}
-use Rattle.std.specs.Io.KnownBytes.{Appends}
+-- From steps in a row to the run of a program, and back.
+use Rattle.std.proofs.Common.{◌≡◌, inl, inr, ℕ, ◌+◌, ◌≤◌, true, false, List, [], ◌∷◌, ◌++◌, drop, Option, Some, None, refl, ap, ◌∙◌, sym, subst, arith, append-nil}
+use Rattle.std.specs.Io.KnownBytes.{Appends, Keeps}
+use Rattle.std.proofs.KnownBytes.{Appends-nil, Appends-trans}
+use Rattle.io_edge.specs.Known.{AppendsFront}
+use Rattle.io_edge.proofs.Known.{kept_front, front_behind, front_more}
+use Rattle.a95_base.specs.Outcome.{Outcome, Finished, Going, Ended, Faulted, IsPrefix}
 use Rattle.loop_tree.specs.declared.tree.Function.{Function}
 use Rattle.loop_tree.specs.State as state
-use Rattle.loop_tree.specs.State.{State, Next, Goes, Ends}
-use Rattle.loop_tree.specs.Run.{Trail, trail, Leads, Outcome, Finished, Going, Runs, lines_at_start}
-use Rattle.loop_tree.specs.RunLaws.{IsPrefix}
-use Rattle.loop_tree.proofs.Runs.{linear, grows, last, not_past}
+use Rattle.loop_tree.specs.State.{State, Comes, Next, Goes, Ends}
+use Rattle.loop_tree.specs.Machine.{step}
+use Rattle.loop_tree.specs.Run.{Configuration, configuration, Reaches, Runs, begins_turn, lines_at_start}
+use Rattle.loop_tree.proofs.Runs.{stays, linear, grows, last, not_past}
 use Rattle.loop_tree.proofs.Outcomes.{one_outcome}
-use Rattle.loop_machine.specs.declared.state.Came.{Came}
-use Rattle.loop_machine.specs.declared.state.Came.TheVariants as came
+use Rattle.loop_tree.proofs.Exists.{some_outcome}
 use Rattle.loop_machine.specs.declared.end.End.{End}
 use Rattle.loop_machine.specs.declared.end.End.TheVariants as end
 use Rattle.loop_machine.specs.Shown.{lines_in}
-use Rattle.loop_machine.specs.Ran.{EndsAfter, WaitsAfter, BreaksAfter, Within, RanTo}
-use Rattle.loop_machine.specs.Ends.{end_of}
-use Rattle.loop_machine.specs.Running.{Tells, Waits, TellsFront, RunsTo, Answers}
+use Rattle.loop_machine.specs.Moves.{EndsSo}
+use Rattle.loop_machine.specs.Running.{outcome_of, Writes, Waits, WritesPrefix, ComesTo, RunsTo, Answers}
+use Rattle.loop_machine.specs.Steps.{Advances}
+use Rattle.loop_machine.proofs.Ways.{one_way, then_way}
 
 -- the first function's lines come first
 pub started : (functions : List Function) → drop 0 (lines_in functions 0) ≡ lines_at_start functions
 started [] = refl
 started (main ∷ functions) = refl
 
-module _ (functions : List Function) (from : State) (turns : ℕ) where
-  abbrev begin : Trail
-  begin = trail 0 [] from
+module _ (functions : List Function) where
+  abbrev begin : State → Configuration
+  begin from = configuration 0 [] from
 
-  -- what was written up to a state within the turns is a front of what the run writes
-  reached_front : (used : ℕ) (written : List ℕ) (to : State) → used ≤ turns → Leads functions begin (trail used written to) → (told : List ℕ) (outcome : Outcome) → Runs functions begin turns told outcome → IsPrefix written told
-  reached_front used written to h way told (Finished how) f =
-      elim (linear functions begin (trail used written to) f.last way f.leads) [
-        | inl on ↦ let more = grows functions (trail used written to) f.last on in record { more = more.more; is = sym f.wrote ∙ more.told }
-        | inr on ↦ record { more = []; is = sym f.wrote ∙ ap (λ (t : Trail). t.told) (sym (last functions f.last (trail used written to) how f.ends on)) ∙ sym (append-nil written) }
+  -- what was written up to a state within the turns is a prefix of what the run writes
+  reached_prefix : (from : State) (turns used : ℕ) (written : List ℕ) (to : State) → used ≤ turns → Reaches functions (begin from) (configuration used written to) →
+      (whole : List ℕ) (outcome : Outcome state.End) → Runs functions (begin from) turns whole outcome → IsPrefix written whole
+  reached_prefix from turns used written to h way whole (Finished how) f =
+      elim (linear functions (begin from) (configuration used written to) f.last way f.leads) [
+        | inl on ↦ let more = grows functions (configuration used written to) f.last on in record { more = more.more; is = sym f.output ∙ more.written }
+        | inr on ↦ record { more = []; is = sym f.output ∙ ap (λ (t : Configuration). t.written) (sym (last functions f.last (configuration used written to) how f.ends on)) ∙ sym (append-nil written) }
       ]
-  reached_front used written to h way told Going f =
-      elim (linear functions begin (trail used written to) f.last way f.leads) [
-        | inl on ↦ let more = grows functions (trail used written to) f.last on in record { more = more.more; is = sym f.wrote ∙ more.told }
-        | inr on ↦ record { more = []; is = sym f.wrote ∙ ap (λ (t : Trail). t.told) (sym (not_past functions f.last (trail used written to) f.waits (omega (arith, f.spent)) on)) ∙ sym (append-nil written) }
+  reached_prefix from turns used written to h way whole Going f =
+      elim (linear functions (begin from) (configuration used written to) f.last way f.leads) [
+        | inl on ↦ let more = grows functions (configuration used written to) f.last on in record { more = more.more; is = sym f.output ∙ more.written }
+        | inr on ↦ record { more = []; is = sym f.output ∙ ap (λ (t : Configuration). t.written) (sym (not_past functions f.last (configuration used written to) f.waits (omega (arith, f.spent)) on)) ∙ sym (append-nil written) }
       ]
 
-  front_of_front : (n : ℕ) (written told : List ℕ) → IsPrefix written told → IsPrefix (take n written) told
-  front_of_front n written told f =
-      record { more = drop n written ++ f.more; is = f.is ∙ ap (λ (w : List ℕ). w ++ f.more) (sym (take-append-drop n written)) ∙ append_assoc (take n written) (drop n written) f.more }
-
-  ends_tell : (how : state.End) (old new : Option (List ℕ)) → Within turns (λ used. EndsAfter functions from used how old new) → Tells functions from turns (Finished how) old new
-  ends_tell how old new w =
-      let e = w.holds in
+  -- so where a prefix of it was appended, one of what the run writes was
+  prefix_appended : (from : State) (turns used : ℕ) (written : List ℕ) (to : State) (old new : Option (List ℕ)) → used ≤ turns →
+      Reaches functions (begin from) (configuration used written to) → AppendsFront old new written → WritesPrefix functions from turns old new
+  prefix_appended from turns used written to old new h way a =
+      let whole = some_outcome functions (begin from) turns (omega arith) in
+      let prefix = reached_prefix from turns used written to h way whole.written whole.outcome whole.runs in
       record {
-        told = e.reaches.told;
-        runs = record { last = trail w.used e.reaches.told e.to; leads = e.reaches.leads; within = w.within; wrote = refl; ends = e.ends };
-        appended = e.reaches.appended;
+        written = whole.written;
+        outcome = whole.outcome;
+        runs = whole.runs;
+        appended = subst (AppendsFront old new) (sym prefix.is) (front_more old new written prefix.more a);
       }
 
-  waits_tell : (to : State) (old new : Option (List ℕ)) → WaitsAfter functions from turns to old new → Waits functions from turns to old new
-  waits_tell to old new w =
+  -- ---- what one step comes to
+
+  ends_here : (from : State) (turns : ℕ) (how : state.End) (bytes : Option (List ℕ)) → step functions from ≡ Ends how → Writes functions from turns (Finished how) bytes bytes
+  ends_here from turns how bytes e = record { written = []; runs = record { last = begin from; leads = stays functions (begin from); within = omega arith; output = refl; ends = e }; appended = Appends-nil bytes }
+
+  pub kept_same : (bytes : Option (List ℕ)) → Keeps bytes bytes
+  kept_same None = tt
+  kept_same (Some bytes) = refl
+
+  -- where no memory is left, nothing is known of the step
+  pub unwritten : (from : State) (turns : ℕ) (old new : Option (List ℕ)) → Keeps old new → WritesPrefix functions from turns old new
+  unwritten from turns old new k = prefix_appended from turns 0 [] from old new (omega arith) (stays functions (begin from)) (kept_front old new [] k)
+
+  pub cut_short : (from to : State) (turns : ℕ) (written : List ℕ) (old new : Option (List ℕ)) → step functions from ≡ Goes false written to → AppendsFront old new written → WritesPrefix functions from turns old new
+  cut_short from to turns written old new e a = prefix_appended from turns 0 written to old new (omega arith) (one_way functions from to false written e) a
+
+  pub waits_here : (from to : State) (turns : ℕ) (bytes : Option (List ℕ)) → turns ≡ 0 → to ≡ from → begins_turn (step functions from) ≡ true → Waits functions from turns to bytes bytes
+  waits_here from to turns bytes none same e =
+      record { written = []; runs = record { last = begin from; leads = stays functions (begin from); spent = sym none; output = refl; waits = e }; there = sym same; appended = Appends-nil bytes }
+
+  pub ends_so : (from to : State) (turns : ℕ) (how : End) (bytes : Option (List ℕ)) → EndsSo (step functions from) how → RunsTo functions from turns how to bytes bytes
+  ends_so from to turns end.Ended bytes e = ends_here from turns (Comes Ended) bytes e
+  ends_so from to turns (end.Fault kind line) bytes e = ends_here from turns (Comes (Faulted kind line.0)) bytes e
+  ends_so from to turns (end.Stuck why) bytes e = ends_here from turns (state.Stuck why) bytes e
+  ends_so from to turns end.TurnLimit bytes e = absurd e
+  ends_so from to turns end.WriteFault bytes e = absurd e
+  ends_so from to turns end.Memory bytes e = unwritten from turns bytes bytes (kept_same bytes)
+
+  -- ---- steps before a run
+
+  runs_then : (from mid : State) (used left : ℕ) (first written : List ℕ) (outcome : Outcome state.End) → Reaches functions (begin from) (configuration used first mid) →
+      Runs functions (begin mid) left written outcome → Runs functions (begin from) (used + left) (first ++ written) outcome
+  runs_then from mid used left first written (Finished how) way f =
+      let within = f.within in
       record {
-        told = w.reaches.told;
-        runs = record { last = trail turns w.reaches.told to; leads = w.reaches.leads; spent = refl; wrote = refl; waits = w.waits };
-        there = refl;
-        appended = w.reaches.appended;
+        last = configuration (used + f.last.turns) (first ++ f.last.written) f.last.state;
+        leads = then_way functions from mid f.last.state used f.last.turns first f.last.written way f.leads;
+        within = omega arith;
+        output = ap (λ (w : List ℕ). first ++ w) f.output;
+        ends = f.ends;
+      }
+  runs_then from mid used left first written Going way f =
+      record {
+        last = configuration (used + f.last.turns) (first ++ f.last.written) f.last.state;
+        leads = then_way functions from mid f.last.state used f.last.turns first f.last.written way f.leads;
+        spent = ap (λ (n : ℕ). used + n) f.spent;
+        output = ap (λ (w : List ℕ). first ++ w) f.output;
+        waits = f.waits;
       }
 
-  breaks_tell : (old new : Option (List ℕ)) → Within turns (λ used. BreaksAfter functions from used old new) → TellsFront functions from turns old new
-  breaks_tell old new w =
-      let b = w.holds in
+  then_comes : (from mid to : State) (used left : ℕ) (outcome : Option (Outcome state.End)) (old between new : Option (List ℕ)) → Advances functions from used mid old between →
+      ComesTo functions mid left outcome to between new → ComesTo functions from (used + left) outcome to old new
+  then_comes from mid to used left (Some (Finished how)) old between new a f =
       record {
-        written = take b.appended.0 b.told;
-        appended = b.appended.1;
-        front = λ told outcome runs. front_of_front b.appended.0 b.told told (reached_front w.used b.told b.to w.within b.leads told outcome runs);
+        written = a.written ++ f.written;
+        runs = runs_then from mid used left a.written f.written (Finished how) a.reaches f.runs;
+        appended = Appends-trans old between new a.written f.written a.appended f.appended;
+      }
+  then_comes from mid to used left (Some Going) old between new a f =
+      record {
+        written = a.written ++ f.written;
+        runs = record {
+          last = configuration (used + f.runs.last.turns) (a.written ++ f.runs.last.written) f.runs.last.state;
+          leads = then_way functions from mid f.runs.last.state used f.runs.last.turns a.written f.runs.last.written a.reaches f.runs.leads;
+          spent = ap (λ (n : ℕ). used + n) f.runs.spent;
+          output = ap (λ (w : List ℕ). a.written ++ w) f.runs.output;
+          waits = f.runs.waits;
+        };
+        there = f.there;
+        appended = Appends-trans old between new a.written f.written a.appended f.appended;
+      }
+  then_comes from mid to used left None old between new a f =
+      record {
+        written = a.written ++ f.written;
+        outcome = f.outcome;
+        runs = runs_then from mid used left a.written f.written f.outcome a.reaches f.runs;
+        appended = front_behind old between new a.written f.written a.appended f.appended;
       }
 
-  pub ran_runs : (to : State) (what : Came) (old new : Option (List ℕ)) → RanTo functions from to turns what old new → RunsTo functions from turns (end_of what) to old new
-  ran_runs to came.Turn old new h = absurd h
-  ran_runs to came.Waits old new h = waits_tell to old new h
-  ran_runs to came.Ended old new h = ends_tell state.Ended old new h
-  ran_runs to (came.Fault kind line) old new h = ends_tell (state.Faulted kind line) old new h
-  ran_runs to (came.Stuck why) old new h = ends_tell (state.Stuck why) old new h
-  ran_runs to came.WriteFault old new h = breaks_tell old new h
-  ran_runs to came.Memory old new h = breaks_tell old new h
+  pub then_runs : (from mid to : State) (used left turns : ℕ) (result : End) (old between new : Option (List ℕ)) → used + left ≡ turns → Advances functions from used mid old between →
+      RunsTo functions mid left result to between new → RunsTo functions from turns result to old new
+  then_runs from mid to used left turns result old between new e a f =
+      subst (λ (n : ℕ). RunsTo functions from n result to old new) e (then_comes from mid to used left (outcome_of result) old between new a f)
 
-  -- ---- the other direction
+  -- ---- what the run says of the answer
 
-  only : (told other : List ℕ) (outcome second : Outcome) (old new : Option (List ℕ)) → Runs functions begin turns told outcome → Appends old new told → Runs functions begin turns other second → (outcome ≡ second) × Appends old new other
-  only told other outcome second old new f a g =
-      let one = one_outcome functions begin turns told other outcome second f g in
+  only : (from : State) (turns : ℕ) (written other : List ℕ) (outcome second : Outcome state.End) (old new : Option (List ℕ)) → Runs functions (begin from) turns written outcome → Appends old new written →
+      Runs functions (begin from) turns other second → (outcome ≡ second) × Appends old new other
+  only from turns written other outcome second old new f a g =
+      let one = one_outcome functions (begin from) turns written other outcome second f g in
       (one.1, subst (Appends old new) one.0 a)
 
-  pub runs_decide : (to : State) (result : End) (old new : Option (List ℕ)) → RunsTo functions from turns result to old new →
-      (told : List ℕ) (outcome : Outcome) → Runs functions begin turns told outcome → Answers outcome told result old new
-  runs_decide to end.Ended old new h told outcome g = only h.told told (Finished state.Ended) outcome old new h.runs h.appended g
-  runs_decide to (end.Fault kind line) old new h told outcome g = only h.told told (Finished (state.Faulted kind line.0)) outcome old new h.runs h.appended g
-  runs_decide to (end.Stuck why) old new h told outcome g = only h.told told (Finished (state.Stuck why)) outcome old new h.runs h.appended g
-  runs_decide to end.TurnLimit old new h told outcome g = only h.told told Going outcome old new h.runs h.appended g
-  runs_decide to end.WriteFault old new h told outcome g = tt
-  runs_decide to end.Memory old new h told outcome g = tt
+  pub runs_decide : (from : State) (turns : ℕ) (to : State) (result : End) (old new : Option (List ℕ)) → RunsTo functions from turns result to old new →
+      (written : List ℕ) (outcome : Outcome state.End) → Runs functions (begin from) turns written outcome → Answers outcome written result old new
+  runs_decide from turns to end.Ended old new h written outcome g = only from turns h.written written (Finished (Comes Ended)) outcome old new h.runs h.appended g
+  runs_decide from turns to (end.Fault kind line) old new h written outcome g = only from turns h.written written (Finished (Comes (Faulted kind line.0))) outcome old new h.runs h.appended g
+  runs_decide from turns to (end.Stuck why) old new h written outcome g = only from turns h.written written (Finished (state.Stuck why)) outcome old new h.runs h.appended g
+  runs_decide from turns to end.TurnLimit old new h written outcome g = only from turns h.written written Going outcome old new h.runs h.appended g
+  runs_decide from turns to end.WriteFault old new h written outcome g = tt
+  runs_decide from turns to end.Memory old new h written outcome g = tt

@@ -2,6 +2,7 @@
 use Rattle.std.proofs.Common.{◌≡◌, ℕ, zero, suc, Bool, true, false, List, [], ◌∷◌, Option, Some, None, if◌then◌else◌, refl, ap, ◌∙◌, sym}
 use Rattle.std.specs.List.{list_all}
 use Rattle.std.specs.Prelude.{slice_get, map}
+use Rattle.loop_tree.specs.declared.stuck.StuckState.TheVariants as stuck
 use Rattle.loop_tree.specs.declared.atom.Argument.{Argument}
 use Rattle.loop_tree.specs.declared.tree.CodeLine.{CodeLine}
 use Rattle.loop_tree.specs.declared.tree.Function.{Function}
@@ -18,15 +19,15 @@ chosen_false : {A : Type 0} (b : Bool) (x y : A) → b ≡ false → (if b then 
 chosen_false true x y e = absurd cc
 chosen_false false x y e = refl
 
-pub not_usable : (functions : List Function) (s : State) (n : ℕ) (arguments : List Argument) → list_all (is_usable s) arguments ≡ false → call_line functions s n arguments ≡ Ends (Stuck 2)
+pub not_usable : (functions : List Function) (s : State) (n : ℕ) (arguments : List Argument) → list_all (is_usable s) arguments ≡ false → call_line functions s n arguments ≡ Ends (Stuck stuck.NoBlock)
 unfolding call_line
 not_usable functions s n arguments e = chosen_false (list_all (is_usable s) arguments) _ _ e
 
-refused : (s : State) (function : Option Function) (arguments : List Argument) → accepts function arguments ≡ false → enter_if s function arguments ≡ Ends (Stuck 4)
+refused : (s : State) (function : Option Function) (arguments : List Argument) → accepts function arguments ≡ false → enter_if s function arguments ≡ Ends (Stuck stuck.WrongCall)
 refused s None arguments e = refl
 refused s (Some function) arguments e = chosen_false (match_letters arguments function.parameters) _ _ e
 
-pub not_accepted : (functions : List Function) (s : State) (n : ℕ) (arguments : List Argument) → list_all (is_usable s) arguments ≡ true → accepts (callable functions n) arguments ≡ false → call_line functions s n arguments ≡ Ends (Stuck 4)
+pub not_accepted : (functions : List Function) (s : State) (n : ℕ) (arguments : List Argument) → list_all (is_usable s) arguments ≡ true → accepts (callable functions n) arguments ≡ false → call_line functions s n arguments ≡ Ends (Stuck stuck.WrongCall)
 unfolding call_line
 not_accepted functions s n arguments u e = chosen_true (list_all (is_usable s) arguments) _ _ u ∙ refused s (callable functions n) arguments e
 

@@ -2,6 +2,7 @@
 use Rattle.std.proofs.Common.{◌≡◌, ℕ, ◌+◌, ℤ, pos, Bool, true, false, List, [], ◌∷◌, drop, ap, sym, ◌∙◌}
 use Rattle.std.specs.Prelude.{◌+ℤ◌, map, slice_get, Some, Result, Ok, Err, int_lt}
 use Rattle.std.specs.Int.{w64, int_wrap}
+use Rattle.loop_tree.specs.declared.stuck.StuckState.{StuckState}
 use Rattle.loop_tree.specs.declared.atom.Atom.{Atom}
 use Rattle.loop_tree.specs.declared.atom.Atom.TheVariants as atom
 use Rattle.loop_tree.specs.declared.atom.Operator.TheVariants as operator
@@ -13,7 +14,6 @@ use Rattle.loop_tree.specs.declared.tree.Function.{Function}
 use Rattle.loop_tree.specs.State.{Brace, Upward, State, Next, Goes, Ends, with_at, with_rest, with_blocks, set_int, set_index}
 use Rattle.loop_tree.specs.Values.{number_at, block_at, atom_in, atom_of, int_value}
 use Rattle.loop_tree.specs.Machine.{rest_of, again, up_again, close_line, given, changed, store_int, change_line, int_line, block_line, at_line, control_line, row_line, do_line, step_at, step}
-use Rattle.loop_tree.specs.Run.{trail, Leads}
 use Rattle.loop_machine.specs.declared.state.Held.TheVariants as held
 use Rattle.loop_machine.specs.declared.state.Core.{Core}
 use Rattle.loop_machine.specs.declared.sweep.CellRow.TheVariants as cell
@@ -27,7 +27,8 @@ use Rattle.loop_values.specs.Heap.{Heap}
 use Rattle.loop_machine.specs.Shown.{brace, lines_in, shown}
 use Rattle.loop_machine.specs.Plans.{atom_of_index, atom_of_operand, row_of, placed, assembled}
 use Rattle.loop_machine.proofs.Exits.{drop_some}
-use Rattle.loop_machine.proofs.Ways.{one_way, led_here}
+use Rattle.loop_machine.specs.Steps.{ReachesSilently}
+use Rattle.loop_machine.proofs.Ways.{quiet_on}
 
 -- what a closing brace does, where that of such a loop is the innermost
 closes : (functions : List Function) (s : State) (rest : List CodeLine) (k : ℕ) (bound : Atom) (body : List CodeLine) (outer : List Brace) →
@@ -61,7 +62,7 @@ state_of s (Goes turn wrote to) = to
 state_of s (Ends how) = s
 
 -- what is done with a value, in a state that differs in its rest
-moved_given : {A : Type 0} (found : Result A ℕ) (next : A → State) (to : State) (rest : List CodeLine) → given found next ≡ Goes false [] to →
+moved_given : {A : Type 0} (found : Result A StuckState) (next : A → State) (to : State) (rest : List CodeLine) → given found next ≡ Goes false [] to →
     given found (λ a. with_rest (next a) rest) ≡ Goes false [] (with_rest to rest)
 moved_given (Ok a) next to rest e = ap (λ (s : State). Goes false [] (with_rest s rest)) (ap (state_of to) e)
 moved_given (Err why) next to rest e = absurd cc
@@ -83,13 +84,12 @@ moved functions s to rest k (planned.Plain (plain.Set n (value.Sum a b))) e = mo
 
 -- and the way goes on with it
 pub row_leads : (functions : List Function) (from : State) (core : Core) (ints more : List ℤ) (blocks changed : Heap) (turns place k : ℕ) (p : Planned) →
-    Leads functions (trail 0 [] from) (trail turns [] (shown functions (placed (assembled core ints blocks) place))) →
+    ReachesSilently functions from turns (shown functions (placed (assembled core ints blocks) place)) →
     slice_get (lines_in functions core.active.routine) place ≡ Some (code.Row (row_of k p)) →
     row_line functions (shown functions (assembled core ints blocks)) (row_of k p) ≡ Goes false [] (shown functions (assembled core more changed)) →
-    Leads functions (trail 0 [] from) (trail turns [] (shown functions (placed (assembled core more changed) (place + 1))))
+    ReachesSilently functions from turns (shown functions (placed (assembled core more changed) (place + 1)))
 row_leads functions from core ints more blocks changed turns place k p led line e =
     let before = assembled core ints blocks in
     let behind = assembled core more changed in
-    led_here functions from (shown functions (placed before place)) (shown functions (placed behind (place + 1))) turns led
-    (one_way functions (shown functions (placed before place)) (shown functions (placed behind (place + 1))) false []
-    (row_step functions before place (row_of k p) line ∙ moved functions (shown functions before) (shown functions behind) (drop (place + 1) (lines_in functions core.active.routine)) k p e))
+    quiet_on functions from (shown functions (placed before place)) (shown functions (placed behind (place + 1))) turns led
+    (row_step functions before place (row_of k p) line ∙ moved functions (shown functions before) (shown functions behind) (drop (place + 1) (lines_in functions core.active.routine)) k p e)

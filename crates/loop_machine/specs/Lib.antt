@@ -1,8 +1,7 @@
+pub mod Callees
 pub mod Exits
-pub mod Shown
 pub mod Moves
 pub mod Plans
-pub mod Callees
-pub mod Ran
 pub mod Running
-pub mod Ends
+pub mod Shown
+pub mod Steps

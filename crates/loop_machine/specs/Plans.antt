@@ -1,6 +1,7 @@
--- The rows of a loop's body as they are kept for all its turns.
+-- The rows of a loop's body as they are kept for all its turns. No public clause cites this.
 use Rattle.std.specs.Prelude.{◌≡◌, ℕ, ℤ, ◌+◌, List, slice_get, Option, Some, Result, Ok, ⊤}
 use Rattle.a95_base.specs.Integer.{wrapped}
+use Rattle.loop_tree.specs.declared.stuck.StuckState.{StuckState}
 use Rattle.loop_tree.specs.declared.atom.Atom.{Atom}
 use Rattle.loop_tree.specs.declared.atom.Atom.TheVariants as atom
 use Rattle.loop_tree.specs.declared.atom.Operator.TheVariants as operator
@@ -54,7 +55,7 @@ int_value_of (value.Operation a op b) = int.Operation (atom_of_operand a) op (at
 int_value_of (value.Same v) = same_value v
 
 -- what a variable is set to, where the variables have these values
-abbrev pub found_in : List ℤ → List ℤ → Value → Result ℤ ℕ
+abbrev pub found_in : List ℤ → List ℤ → Value → Result ℤ StuckState
 found_in ints indices (value.Sum a b) = operation operator.Add (atom_in ints indices (atom_of_operand a)) (atom_in ints indices (atom_of_operand b))
 found_in ints indices (value.Operation a op b) = operation op (atom_in ints indices (atom_of_operand a)) (atom_in ints indices (atom_of_operand b))
 found_in ints indices (value.Same (same.Atom a)) = Ok (atom_in ints indices (atom_of_operand a))

@@ -6,11 +6,12 @@ ghost use Rattle.loop_machine.specs.Shown.{shown};
 ghost use Rattle.loop_machine.specs.Callees.{accepts, entered, with_argument};
 ghost use Rattle.loop_machine.specs.Moves.{Did};
 
+use crate::end::End;
 use crate::routine::Routine;
-use crate::state::{Active, Core, Move};
+use crate::state::{Active, Core, Move, ends};
 use crate::values::{atom, block, text};
 use a95_base::Bytes;
-use loop_tree::{Argument, Letter, Reference, Stack};
+use loop_tree::{Argument, Letter, Reference, Stack, StuckState};
 use loop_values::{Link, Links, Numbers, Words};
 use std::alloc::AllocError;
 use std::mem;
@@ -205,22 +206,30 @@ pub fn call(
     ensures { Did (call_line routines.now (shown routines.now core.old) n arguments.now) may routines.now core.old core.new result }
 {
     if !all_usable(routines, core, arguments) {
-        core.why = 2;
-        return Move::Stuck;
+        return ends(
+            core,
+            End::Stuck {
+                why: StuckState::NoBlock,
+            },
+        );
     }
     if !accepts(routines, n, arguments) {
-        core.why = 4;
-        return Move::Stuck;
+        return ends(
+            core,
+            End::Stuck {
+                why: StuckState::WrongCall,
+            },
+        );
     }
     if !may {
         return Move::Waits;
     }
     let Ok(callee) = entered(routines, core, n, arguments) else {
-        return Move::Memory;
+        return ends(core, End::Memory);
     };
     let caller = mem::replace(&mut core.active, callee);
     match core.callers.push(caller) {
         Ok(()) => Move::Turn,
-        Err(_) => Move::Memory,
+        Err(_) => ends(core, End::Memory),
     }
 }

@@ -1,9 +1,9 @@
+//! What a run came to. `specs/Running.antt` says what each answer tells of the program.
 ghost use Rattle.std.specs.Prelude.{◌≡◌};
-ghost use Rattle.loop_machine.specs.Ends.{end_of};
 ghost use Rattle.loop_machine.specs.Running.{left_by};
 
-use crate::state::Came;
 use a95_base::{FaultKind, Line};
+use loop_tree::StuckState;
 
 /// What a run came to.
 #[derive(Clone, Copy, Debug, PartialEq, Eq)]
@@ -12,33 +12,14 @@ pub enum End {
     Ended,
     /// f_fault, with the line that f_at had set in that call, or 0.
     Fault { kind: FaultKind, line: Line },
-    /// No step is possible: 1 an index is outside its block, 2 a reference leads to no living block, 3 a divisor is 0,
-    /// 4 a call has no function that takes it, 5 a block's size, 6 a part of a text, 7 a byte, 8 f_take without an
-    /// integer, 9 a negative exponent. Where several hold the least is given.
-    Stuck { why: u8 },
+    /// No step is possible. Where there are several reasons the one of the least number is given.
+    Stuck { why: StuckState },
     /// All turns were begun, and one more would begin.
     TurnLimit,
     /// The sink failed.
     WriteFault,
     /// An allocation was refused.
     Memory,
-}
-
-pub fn end_of(came: Came) -> End
-    ensures { result ≡ end_of came }
-{
-    match came {
-        Came::Turn => End::TurnLimit,
-        Came::Waits => End::TurnLimit,
-        Came::Ended => End::Ended,
-        Came::Fault(kind, line) => End::Fault {
-            kind,
-            line: Line(line),
-        },
-        Came::Stuck(why) => End::Stuck { why },
-        Came::WriteFault => End::WriteFault,
-        Came::Memory => End::Memory,
-    }
 }
 
 /// What a further run answers, where it doesn't go on.

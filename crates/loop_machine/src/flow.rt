@@ -7,8 +7,9 @@ ghost use Rattle.loop_tree.specs.Machine.{leave, if_line, skip_choice, else_line
 ghost use Rattle.loop_machine.specs.Shown.{lines_in, brace, shown, is_else, begins_choice};
 ghost use Rattle.loop_machine.specs.Moves.{Did};
 
+use crate::end::End;
 use crate::routine::Routine;
-use crate::state::{Core, Held, Move};
+use crate::state::{Core, Held, Move, ends};
 use crate::values::atom;
 use loop_tree::{Atom, CodeLine, Stack};
 use loop_values::{Numbers, difference, sum};
@@ -90,7 +91,7 @@ pub fn leave(routines: &[Routine], core: &mut Core, may: bool) -> Move
     let _ = routines;
     let _ = may;
     match core.callers.pop() {
-        None => Move::Ended,
+        None => ends(core, End::Ended),
         Some(caller) => {
             core.blocks.free_from(core.active.mark);
             core.active = caller;
@@ -108,12 +109,12 @@ pub fn choose(routines: &[Routine], core: &mut Core, test: i64, may: bool) -> Mo
     if test != 0 {
         return match core.active.held.push(Held::Choice) {
             Ok(()) => Move::Quiet,
-            Err(_) => Move::Memory,
+            Err(_) => ends(core, End::Memory),
         };
     }
     match skip(routines, core) {
         Ok(()) => Move::Quiet,
-        Err(_) => Move::Memory,
+        Err(_) => ends(core, End::Memory),
     }
 }
 
@@ -166,7 +167,7 @@ pub fn begin_forever(routines: &[Routine], core: &mut Core, may: bool) -> Move
     };
     match core.active.held.push(held) {
         Ok(()) => Move::Turn,
-        Err(_) => Move::Memory,
+        Err(_) => ends(core, End::Memory),
     }
 }
 
@@ -208,7 +209,7 @@ fn begin(
 {
     if !goes {
         if core.active.indices.set(k, value).is_err() {
-            return Move::Memory;
+            return ends(core, End::Memory);
         }
         core.active.place = past(routines, core.active.routine, core.active.place);
         return Move::Quiet;
@@ -217,11 +218,11 @@ fn begin(
         return Move::Waits;
     }
     if core.active.indices.set(k, value).is_err() {
-        return Move::Memory;
+        return ends(core, End::Memory);
     }
     match core.active.held.push(held) {
         Ok(()) => Move::Turn,
-        Err(_) => Move::Memory,
+        Err(_) => ends(core, End::Memory),
     }
 }
 
@@ -268,7 +269,7 @@ fn repeat(
     let _ = routines;
     if !goes {
         if core.active.indices.set(k, value).is_err() {
-            return Move::Memory;
+            return ends(core, End::Memory);
         }
         core.active.held.drop_top();
         return Move::Quiet;
@@ -277,7 +278,7 @@ fn repeat(
         return Move::Waits;
     }
     if core.active.indices.set(k, value).is_err() {
-        return Move::Memory;
+        return ends(core, End::Memory);
     }
     core.active.place = body;
     Move::Turn

@@ -1,16 +1,17 @@
+//! A program that runs.
 ghost use Rattle.std.specs.Prelude.{◌≡◌, ◌≢◌, ℕ, ◌≤◌, List, [], Some, None, IfOk};
 ghost use Rattle.io_edge.specs.Causes.{Rose};
-ghost use Rattle.loop_tree.specs.Run.{Outcome, Runs, trail, start};
+ghost use Rattle.a95_base.specs.Outcome.{Outcome};
+ghost use Rattle.loop_tree.specs.State as state;
+ghost use Rattle.loop_tree.specs.Run.{Runs, configuration, start};
 ghost use Rattle.loop_machine.specs.Shown.{shown};
-ghost use Rattle.loop_machine.specs.Ran.{RanTo};
-ghost use Rattle.loop_machine.specs.Ends.{end_of};
 ghost use Rattle.loop_machine.specs.Running.{Running, left_by, RunsTo, Answers};
 
-use crate::end::{End, end_of, left_by};
+use crate::end::{End, left_by};
 use crate::routine::Routine;
 use crate::run::go;
 use crate::state::{Active, Core};
-use a95_base::{FaultKind, Memory};
+use a95_base::Memory;
 use io_edge::Sink;
 use loop_tree::{Function, LoopProgram, Stack};
 use loop_values::{Blocks, Links, Numbers, Words};
@@ -81,8 +82,7 @@ impl Machine {
             pending: Record::new(alloc),
             input: Items::from_vec(input),
             taken: 0,
-            fault: FaultKind::ZeroDivide,
-            why: 0,
+            end: End::Ended,
         };
         Ok(Machine {
             routines,
@@ -91,13 +91,13 @@ impl Machine {
         })
     }
 
-    /// Runs on with so many turns, and puts each record to the sink in one piece. Behind `TurnLimit` a further run goes
+    /// Runs on with so many turns, and writes each record by one put to the sink. Behind `TurnLimit` a further run goes
     /// on with new turns, as one run with all of them; behind any other end it answers that end again.
     pub fn run<K: Sink>(&mut self, turns: u128, sink: &mut K) -> End
         // What the answer says of the run of the program.
         ensures runs { self.old.ended ≡ None → RunsTo self.old.functions self.old.state turns result self.new.state (K.written sink.old) (K.written sink.new) }
         // And what the run says of the answer.
-        ensures decided { self.old.ended ≡ None → (told : List ℕ) (outcome : Outcome) → Runs self.old.functions (trail 0 [] self.old.state) turns told outcome → Answers outcome told result (K.written sink.old) (K.written sink.new) }
+        ensures decided { self.old.ended ≡ None → (written : List ℕ) (outcome : Outcome state.End) → Runs self.old.functions (configuration 0 [] self.old.state) turns written outcome → Answers outcome written result (K.written sink.old) (K.written sink.new) }
         ensures ended { self.old.ended ≡ None → self.new.ended ≡ left_by result }
         ensures functions { self.new.functions ≡ self.old.functions }
         // An end is answered again, and nothing is done.
@@ -110,7 +110,7 @@ impl Machine {
         if let Some(end) = self.ended {
             return end;
         }
-        let end = end_of(go(self.routines.as_slice(), &mut self.core, turns, sink));
+        let end = go(self.routines.as_slice(), &mut self.core, turns, sink);
         self.ended = left_by(end);
         end
     }

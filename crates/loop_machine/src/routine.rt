@@ -1,3 +1,4 @@
+//! Functions made ready to run.
 ghost use Rattle.std.specs.Prelude.{◌≡◌, ◌∷◌, ◌+◌, ◌<◌, ◌^◌, [], drop, OnSome, length, IfOk, OnOk, MatchOption};
 ghost use Rattle.loop_tree.specs.Lines.{lines_of};
 ghost use Rattle.loop_tree.specs.Machine.{exits, exit_of, rest_of, first_exit};

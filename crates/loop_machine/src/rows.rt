@@ -1,56 +1,44 @@
 //! Rows that set variables, change blocks and gather records. Each function does what its word in the definition says
 //! of a state whose rest begins behind the row.
-ghost use Rattle.std.specs.Prelude.{IfOk};
 ghost use Rattle.loop_tree.specs.State.{with_at};
 ghost use Rattle.loop_tree.specs.Values.{grown, atom_of, text_of, block_of, block_at, holds};
 ghost use Rattle.a95_base.specs.Input.{next_value, record_length};
 ghost use Rattle.loop_tree.specs.Machine.{take_line, int_line, text_line, change_line, store_int, store_text, free_line, new_ints_line, new_texts_line, same_ints_line, same_texts_line, block_line, put_line, record_line};
 ghost use Rattle.loop_machine.specs.Shown.{shown};
-ghost use Rattle.loop_machine.specs.Moves.{Did};
+ghost use Rattle.loop_machine.specs.Moves.{Did, Obeyed};
 
+use crate::end::End;
 use crate::routine::Routine;
-use crate::state::{Core, Move};
+use crate::state::{Core, Move, ends, halts};
 use crate::values::{atom, block, holds, int_value, rest, text, text_value};
 use a95_base::{Bytes, Scalar, wrap32};
-use loop_tree::{Atom, BlockRow, IntValue, RecordRow, Reference, TextValue};
-use loop_values::Link;
+use loop_tree::{Atom, BlockRow, IntValue, RecordRow, Reference, StuckState, TextValue};
+use loop_values::{Halt, Link};
 use record_io::{Looked, after_record, look};
 
 /// `iN = f_take(A);`
-fn take(routines: &[Routine], core: &mut Core, n: u32, comma: bool, may: bool) -> Move
-    ensures { Did (take_line (shown routines.now core.old) n (next_value comma (shown routines.now core.old).input)) may routines.now core.old core.new result }
+fn take(routines: &[Routine], core: &mut Core, n: u32, comma: bool) -> Result<(), Halt>
+    ensures { Obeyed (take_line (shown routines.now core.old) n (next_value comma (shown routines.now core.old).input)) routines.now core.new result }
 {
     let _ = routines;
-    let _ = may;
     match look(rest(core.input.as_slice(), core.taken), comma) {
         Looked::Value { value, used } => {
-            if core.active.ints.set(n, i64::from(value)).is_err() {
-                return Move::Memory;
-            }
+            core.active.ints.set(n, i64::from(value))?;
             core.taken = core.taken.saturating_add(used);
-            Move::Quiet
+            Ok(())
         }
-        Looked::End => {
-            core.why = 8;
-            Move::Stuck
-        }
-        Looked::Bad => {
-            core.why = 8;
-            Move::Stuck
-        }
+        Looked::End | Looked::Bad => Err(Halt::Stuck(StuckState::NoInteger)),
     }
 }
 
-/// `iN = ..;`
-#[inline(never)]
 #[tactic(auto, unfolding(loop_tree::specs::Machine::int_line))]
-pub fn int_row(routines: &[Routine], core: &mut Core, n: u32, value: &IntValue, may: bool) -> Move
-    ensures { Did (int_line (shown routines.now core.old) n value.now) may routines.now core.old core.new result }
+fn set_int(routines: &[Routine], core: &mut Core, n: u32, value: &IntValue) -> Result<(), Halt>
+    ensures { Obeyed (int_line (shown routines.now core.old) n value.now) routines.now core.new result }
 {
     match value {
         IntValue::Take(a) => {
             let comma = holds(atom(&core.active.ints, &core.active.indices, *a));
-            take(routines, core, n, comma, may)
+            take(routines, core, n, comma)
         }
         IntValue::Atom(_)
         | IntValue::Operation(_, _, _)
@@ -66,40 +54,44 @@ pub fn int_row(routines: &[Routine], core: &mut Core, n: u32, value: &IntValue, 
         | IntValue::Live(_)
         | IntValue::Depth
         | IntValue::More
-        | IntValue::Look(_) => match int_value(routines, core, value) {
-            Ok(found) => {
-                match core.active.ints.set(n, found) {
-                    Ok(()) => Move::Quiet,
-                    Err(_) => Move::Memory,
-                }
-            }
-            Err(why) => {
-                core.why = why;
-                Move::Stuck
-            }
-        },
+        | IntValue::Look(_) => {
+            let found = int_value(routines, core, value)?;
+            core.active.ints.set(n, found)?;
+            Ok(())
+        }
     }
+}
+
+/// `iN = ..;`
+#[inline(never)]
+pub fn int_row(routines: &[Routine], core: &mut Core, n: u32, value: &IntValue, may: bool) -> Move
+    ensures { Did (int_line (shown routines.now core.old) n value.now) may routines.now core.old core.new result }
+{
+    let _ = may;
+    match set_int(routines, core, n, value) {
+        Ok(()) => Move::Quiet,
+        Err(halt) => halts(core, halt),
+    }
+}
+
+#[tactic(auto, unfolding(loop_tree::specs::Machine::text_line))]
+fn set_text(routines: &[Routine], core: &mut Core, n: u32, value: &TextValue) -> Result<(), Halt>
+    ensures { Obeyed (text_line (shown routines.now core.old) n value.now) routines.now core.new result }
+{
+    let made = text_value(routines, core, value)?;
+    core.active.texts.set(n, made)?;
+    Ok(())
 }
 
 /// `sN = ..;`
 #[inline(never)]
-#[tactic(auto, unfolding(loop_tree::specs::Machine::text_line))]
 pub fn text_row(routines: &[Routine], core: &mut Core, n: u32, value: &TextValue, may: bool) -> Move
     ensures { Did (text_line (shown routines.now core.old) n value.now) may routines.now core.old core.new result }
 {
     let _ = may;
-    match text_value(routines, core, value) {
-        Ok(Ok(made)) => {
-            match core.active.texts.set(n, made) {
-                Ok(()) => Move::Quiet,
-                Err(_) => Move::Memory,
-            }
-        }
-        Ok(Err(why)) => {
-            core.why = why;
-            Move::Stuck
-        }
-        Err(_) => Move::Memory,
+    match set_text(routines, core, n, value) {
+        Ok(()) => Move::Quiet,
+        Err(halt) => halts(core, halt),
     }
 }
 
@@ -111,19 +103,12 @@ fn store_int(
     link: Option<Link>,
     at: i64,
     value: i64,
-    may: bool,
-) -> Move
-    ensures { Did (change_line (shown routines.now core.old) link (store_int at value)) may routines.now core.old core.new result }
+) -> Result<(), Halt>
+    ensures { Obeyed (change_line (shown routines.now core.old) link (store_int at value)) routines.now core.new result }
 {
     let _ = routines;
-    let _ = may;
-    match core.blocks.store_int(link, at, value) {
-        Ok(()) => Move::Quiet,
-        Err(why) => {
-            core.why = why;
-            Move::Stuck
-        }
-    }
+    core.blocks.store_int(link, at, value)?;
+    Ok(())
 }
 
 /// `cN[A] = S;`
@@ -134,76 +119,45 @@ fn store_text(
     link: Option<Link>,
     at: i64,
     value: Bytes,
-    may: bool,
-) -> Move
-    ensures { Did (change_line (shown routines.now core.old) link (store_text at value)) may routines.now core.old core.new result }
+) -> Result<(), Halt>
+    ensures { Obeyed (change_line (shown routines.now core.old) link (store_text at value)) routines.now core.new result }
 {
     let _ = routines;
-    let _ = may;
-    match core.blocks.store_text(link, at, value) {
-        Ok(()) => Move::Quiet,
-        Err(why) => {
-            core.why = why;
-            Move::Stuck
-        }
-    }
+    core.blocks.store_text(link, at, value)?;
+    Ok(())
 }
 
 /// `f_grow(R, A);`
 #[tactic(auto, unfolding(loop_tree::specs::Machine::block_line, loop_tree::specs::Machine::change_line))]
-fn grow(routines: &[Routine], core: &mut Core, r: Reference, a: Atom, may: bool) -> Move
-    ensures { Did (block_line (shown routines.now core.old) (BlockRow.Grow r a)) may routines.now core.old core.new result }
+fn grow(routines: &[Routine], core: &mut Core, r: Reference, a: Atom) -> Result<(), Halt>
+    ensures { Obeyed (block_line (shown routines.now core.old) (BlockRow.Grow r a)) routines.now core.new result }
 {
     let _ = routines;
-    let _ = may;
     let count = atom(&core.active.ints, &core.active.indices, a);
     let link = block(&core.active.int_blocks, &core.active.text_blocks, r);
-    match core.blocks.grow(link, count) {
-        Ok(Ok(())) => Move::Quiet,
-        Ok(Err(why)) => {
-            core.why = why;
-            Move::Stuck
-        }
-        Err(_) => Move::Memory,
-    }
+    core.blocks.grow(link, count)?;
+    Ok(())
 }
 
 /// `f_free(R);`
 #[tactic(auto, unfolding(loop_tree::specs::Machine::free_line))]
-fn free(routines: &[Routine], core: &mut Core, link: Option<Link>, may: bool) -> Move
-    ensures { Did (free_line (shown routines.now core.old) link) may routines.now core.old core.new result }
+fn free(routines: &[Routine], core: &mut Core, link: Option<Link>) -> Result<(), Halt>
+    ensures { Obeyed (free_line (shown routines.now core.old) link) routines.now core.new result }
 {
     let _ = routines;
-    let _ = may;
-    match core.blocks.free(link) {
-        Ok(()) => Move::Quiet,
-        Err(why) => {
-            core.why = why;
-            Move::Stuck
-        }
-    }
+    core.blocks.free(link)?;
+    Ok(())
 }
 
 /// `bN = f_new(A);`
 #[tactic(auto, unfolding(loop_tree::specs::Machine::new_ints_line))]
-fn new_ints(routines: &[Routine], core: &mut Core, n: u32, count: i64, may: bool) -> Move
-    ensures { Did (new_ints_line (shown routines.now core.old) n count) may routines.now core.old core.new result }
+fn new_ints(routines: &[Routine], core: &mut Core, n: u32, count: i64) -> Result<(), Halt>
+    ensures { Obeyed (new_ints_line (shown routines.now core.old) n count) routines.now core.new result }
 {
     let _ = routines;
-    let _ = may;
-    match core.blocks.new_ints(count) {
-        Ok(Ok(link)) => {
-            match core.active.int_blocks.set(n, Some(link)) {
-                Ok(()) => Move::Quiet,
-                Err(_) => Move::Memory,
-            }
-        }
-        Ok(Err(why)) => {
-            core.why = why;
-            Move::Stuck
-        }
-        Err(_) => Move::Memory,
-    }
+    let link = core.blocks.new_ints(count)?;
+    core.active.int_blocks.set(n, Some(link))?;
+    Ok(())
 }
 
 /// `cN = f_new_text(A, A);`
@@ -214,68 +168,89 @@ fn new_texts(
     n: u32,
     count: i64,
     size: i64,
-    may: bool,
-) -> Move
-    ensures { Did (new_texts_line (shown routines.now core.old) n count size) may routines.now core.old core.new result }
+) -> Result<(), Halt>
+    ensures { Obeyed (new_texts_line (shown routines.now core.old) n count size) routines.now core.new result }
 {
     let _ = routines;
-    let _ = may;
-    match core.blocks.new_texts(count, size) {
-        Ok(Ok(link)) => {
-            match core.active.text_blocks.set(n, Some(link)) {
-                Ok(()) => Move::Quiet,
-                Err(_) => Move::Memory,
-            }
-        }
-        Ok(Err(why)) => {
-            core.why = why;
-            Move::Stuck
-        }
-        Err(_) => Move::Memory,
-    }
+    let link = core.blocks.new_texts(count, size)?;
+    core.active.text_blocks.set(n, Some(link))?;
+    Ok(())
 }
 
 /// `bN = bN;`
 #[tactic(auto, unfolding(loop_tree::specs::Machine::same_ints_line))]
-fn same_ints(routines: &[Routine], core: &mut Core, n: u32, m: u32, may: bool) -> Move
-    ensures { Did (same_ints_line (shown routines.now core.old) n (block_at core.old.active.int_blocks m)) may routines.now core.old core.new result }
+fn same_ints(routines: &[Routine], core: &mut Core, n: u32, m: u32) -> Result<(), Halt>
+    ensures { Obeyed (same_ints_line (shown routines.now core.old) n (block_at core.old.active.int_blocks m)) routines.now core.new result }
 {
     let _ = routines;
-    let _ = may;
-    match core.blocks.check(core.active.int_blocks.get(m)) {
-        Ok(()) => {
-            let link = core.active.int_blocks.get(m);
-            match core.active.int_blocks.set(n, link) {
-                Ok(()) => Move::Quiet,
-                Err(_) => Move::Memory,
-            }
-        }
-        Err(why) => {
-            core.why = why;
-            Move::Stuck
-        }
-    }
+    core.blocks.check(core.active.int_blocks.get(m))?;
+    let link = core.active.int_blocks.get(m);
+    core.active.int_blocks.set(n, link)?;
+    Ok(())
 }
 
 /// `cN = cN;`
 #[tactic(auto, unfolding(loop_tree::specs::Machine::same_texts_line))]
-fn same_texts(routines: &[Routine], core: &mut Core, n: u32, m: u32, may: bool) -> Move
-    ensures { Did (same_texts_line (shown routines.now core.old) n (block_at core.old.active.text_blocks m)) may routines.now core.old core.new result }
+fn same_texts(routines: &[Routine], core: &mut Core, n: u32, m: u32) -> Result<(), Halt>
+    ensures { Obeyed (same_texts_line (shown routines.now core.old) n (block_at core.old.active.text_blocks m)) routines.now core.new result }
 {
     let _ = routines;
-    let _ = may;
-    match core.blocks.check(core.active.text_blocks.get(m)) {
-        Ok(()) => {
-            let link = core.active.text_blocks.get(m);
-            match core.active.text_blocks.set(n, link) {
-                Ok(()) => Move::Quiet,
-                Err(_) => Move::Memory,
+    core.blocks.check(core.active.text_blocks.get(m))?;
+    let link = core.active.text_blocks.get(m);
+    core.active.text_blocks.set(n, link)?;
+    Ok(())
+}
+
+#[tactic(auto, unfolding(loop_tree::specs::Machine::block_line))]
+fn change_block(routines: &[Routine], core: &mut Core, row: &BlockRow) -> Result<(), Halt>
+    ensures { Obeyed (block_line (shown routines.now core.old) row.now) routines.now core.new result }
+{
+    match row {
+        BlockRow::StoreInt(n, i, a) => {
+            let at = atom(&core.active.ints, &core.active.indices, *i);
+            let value = atom(&core.active.ints, &core.active.indices, *a);
+            let link = core.active.int_blocks.get(*n);
+            store_int(routines, core, link, at, value)
+        }
+        BlockRow::StoreText(n, i, t) => {
+            let at = atom(&core.active.ints, &core.active.indices, *i);
+            let value = Bytes::from_slice(core.alloc, text(&core.active.texts, t))?;
+            let link = core.active.text_blocks.get(*n);
+            store_text(routines, core, link, at, value)
+        }
+        BlockRow::New(n, a) | BlockRow::Temp(n, a) | BlockRow::Copy(n, a) | BlockRow::Mark(n, a) =>
+            {
+                let count = atom(&core.active.ints, &core.active.indices, *a);
+                new_ints(routines, core, *n, count)
             }
+        BlockRow::NewText(n, a, b) => {
+            let count = atom(&core.active.ints, &core.active.indices, *a);
+            let size = atom(&core.active.ints, &core.active.indices, *b);
+            new_texts(routines, core, *n, count, size)
         }
-        Err(why) => {
-            core.why = why;
-            Move::Stuck
+        BlockRow::TempText(n, a) | BlockRow::CopyText(n, a) => {
+            let count = atom(&core.active.ints, &core.active.indices, *a);
+            new_texts(routines, core, *n, count, 0)
         }
+        BlockRow::SameInts(n, m) => same_ints(routines, core, *n, *m),
+        BlockRow::SameTexts(n, m) => same_texts(routines, core, *n, *m),
+        BlockRow::Grow(r, a) => grow(routines, core, *r, *a),
+        BlockRow::Free(r) => {
+            let link = block(&core.active.int_blocks, &core.active.text_blocks, *r);
+            free(routines, core, link)
+        }
+    }
+}
+
+/// A row that makes, changes, names or frees a block.
+#[inline(never)]
+pub fn block_row(routines: &[Routine], core: &mut Core, row: &BlockRow, may: bool) -> Move
+    ensures { Did (block_line (shown routines.now core.old) row.now) may routines.now core.old core.new result }
+{
+    let _ = may;
+    match change_block(routines, core, row) {
+        Ok(()) => Move::Quiet,
+        Err(halt) => halts(core, halt),
     }
 }
 
@@ -288,52 +263,7 @@ fn put(routines: &[Routine], core: &mut Core, value: &Scalar, may: bool) -> Move
     let _ = may;
     match core.pending.put_value(value) {
         Ok(()) => Move::Quiet,
-        Err(_) => Move::Memory,
-    }
-}
-
-/// A row that makes, changes, names or frees a block.
-#[inline(never)]
-#[tactic(auto, unfolding(loop_tree::specs::Machine::block_line))]
-pub fn block_row(routines: &[Routine], core: &mut Core, row: &BlockRow, may: bool) -> Move
-    ensures { Did (block_line (shown routines.now core.old) row.now) may routines.now core.old core.new result }
-{
-    match row {
-        BlockRow::StoreInt(n, i, a) => {
-            let at = atom(&core.active.ints, &core.active.indices, *i);
-            let value = atom(&core.active.ints, &core.active.indices, *a);
-            let link = core.active.int_blocks.get(*n);
-            store_int(routines, core, link, at, value, may)
-        }
-        BlockRow::StoreText(n, i, t) => {
-            let at = atom(&core.active.ints, &core.active.indices, *i);
-            let Ok(value) = Bytes::from_slice(core.alloc, text(&core.active.texts, t)) else {
-                return Move::Memory;
-            };
-            let link = core.active.text_blocks.get(*n);
-            store_text(routines, core, link, at, value, may)
-        }
-        BlockRow::New(n, a) | BlockRow::Temp(n, a) | BlockRow::Copy(n, a) | BlockRow::Mark(n, a) =>
-            {
-                let count = atom(&core.active.ints, &core.active.indices, *a);
-                new_ints(routines, core, *n, count, may)
-            }
-        BlockRow::NewText(n, a, b) => {
-            let count = atom(&core.active.ints, &core.active.indices, *a);
-            let size = atom(&core.active.ints, &core.active.indices, *b);
-            new_texts(routines, core, *n, count, size, may)
-        }
-        BlockRow::TempText(n, a) | BlockRow::CopyText(n, a) => {
-            let count = atom(&core.active.ints, &core.active.indices, *a);
-            new_texts(routines, core, *n, count, 0, may)
-        }
-        BlockRow::SameInts(n, m) => same_ints(routines, core, *n, *m, may),
-        BlockRow::SameTexts(n, m) => same_texts(routines, core, *n, *m, may),
-        BlockRow::Grow(r, a) => grow(routines, core, *r, *a, may),
-        BlockRow::Free(r) => {
-            let link = block(&core.active.int_blocks, &core.active.text_blocks, *r);
-            free(routines, core, link, may)
-        }
+        Err(_) => ends(core, End::Memory),
     }
 }
 
@@ -354,7 +284,7 @@ pub fn record_row(routines: &[Routine], core: &mut Core, row: &RecordRow, may: b
         }
         RecordRow::PutText(t) => {
             let Ok(bytes) = Bytes::from_slice(core.alloc, text(&core.active.texts, t)) else {
-                return Move::Memory;
+                return ends(core, End::Memory);
             };
             put(routines, core, &Scalar::Text(bytes), may)
         }

@@ -1,16 +1,18 @@
 //! Steps in a row, and what they write.
-ghost use Rattle.std.specs.Prelude.{◌≡◌, ◌≤◌, ◌∷◌, ◌++◌, [], IfOk, OnOk, OnErr, IsErrOf, MatchOption, Some, ◌≢◌};
+ghost use Rattle.std.specs.Prelude.{◌≡◌, ◌≢◌, ◌≤◌, ◌∷◌, ◌++◌, [], Err, IfOk, OnOk, IsErrOf};
 ghost use Rattle.std.specs.Io.KnownBytes.{Appends, Keeps};
 ghost use Rattle.a95_base.specs.Record.{record_text};
 ghost use Rattle.io_edge.specs.Causes.{Rose};
 ghost use Rattle.io_edge.specs.Known.{AppendsFront};
 ghost use Rattle.loop_machine.specs.Shown.{shown};
-ghost use Rattle.loop_machine.specs.Ran.{Passes, CameTo, RanTo};
+ghost use Rattle.loop_machine.specs.Running.{RunsTo};
+ghost use Rattle.loop_machine.specs.Steps.{Passed, Advanced};
 
+use crate::end::End;
 use crate::flow::lines_at;
 use crate::quick::{next_row, next_turn};
 use crate::routine::Routine;
-use crate::state::{Came, Core, Move};
+use crate::state::{Core, Move};
 use crate::step::step;
 use crate::sweep::sweep;
 use io_edge::{PutFault, Sink};
@@ -24,8 +26,8 @@ fn with_line_feed(alloc: Global, text: &[u8]) -> Result<Vec<u8>, AllocError>
     Ok(line)
 }
 
+/// Writes the pending record and its line feed by one put, and begins a new one.
 #[inline(never)]
-/// Writes the pending record and its line feed in one piece, and begins a new one.
 fn write_record<K: Sink>(core: &mut Core, sink: &mut K) -> Result<(), PutFault>
     ensures emptied { OnOk result (core.new ≡ record core.old { pending = [] }) }
     ensures appended { OnOk result (Appends (K.written sink.old) (K.written sink.new) (record_text core.old.pending ++ 10 ∷ [])) }
@@ -49,52 +51,58 @@ fn write_record<K: Sink>(core: &mut Core, sink: &mut K) -> Result<(), PutFault>
     }
 }
 
-#[tactic(auto, using(crate::proofs::Ways::turn_begun, crate::proofs::Ways::ends_here, crate::proofs::Ways::waits_here, crate::proofs::Ways::cut_short, crate::proofs::Ways::breaks_here, crate::proofs::Ways::kept_same))]
-/// One step, and the record that it writes. None where the step after it follows without a turn.
-fn pass<K: Sink>(routines: &[Routine], core: &mut Core, may: bool, sink: &mut K) -> Option<Came>
-    ensures came { MatchOption result
-        (Passes routines.now (shown routines.now core.old) (shown routines.now core.new) (K.written sink.old) (K.written sink.new))
-        (λ came. CameTo routines.now (shown routines.now core.old) (shown routines.now core.new) may came (K.written sink.old) (K.written sink.new)) }
+/// One step, and the record that it writes, with so many turns left. Whether it began a turn, or the answer of the run.
+#[tactic(auto, using(crate::proofs::Ways::silent_step, crate::proofs::Answering::ends_so, crate::proofs::Answering::waits_here, crate::proofs::Answering::cut_short, crate::proofs::Answering::unwritten))]
+fn pass<K: Sink>(
+    routines: &[Routine],
+    core: &mut Core,
+    left: u128,
+    sink: &mut K,
+) -> Result<bool, End>
+    ensures passed { Passed routines.now (shown routines.now core.old) (shown routines.now core.new) left result (K.written sink.old) (K.written sink.new) }
     ensures later { K.faults sink.old ≤ K.faults sink.new }
-    ensures counted { result ≡ Some Came.WriteFault → Rose (K.faults sink.old) (K.faults sink.new) }
-    ensures same { result ≢ Some Came.WriteFault → K.faults sink.new ≡ K.faults sink.old }
+    ensures counted { IsErrOf result End.WriteFault → Rose (K.faults sink.old) (K.faults sink.new) }
+    ensures same { result ≢ Err End.WriteFault → K.faults sink.new ≡ K.faults sink.old }
 {
-    match step(routines, core, may) {
-        Move::Quiet => None,
+    match step(routines, core, left > 0) {
+        Move::Quiet => Ok(false),
+        Move::Turn => Ok(true),
         Move::Record => match write_record(core, sink) {
-            Ok(()) => None,
-            Err(PutFault::Failed) => Some(Came::WriteFault),
-            Err(PutFault::Memory) => Some(Came::Memory),
+            Ok(()) => Ok(false),
+            Err(PutFault::Failed) => Err(End::WriteFault),
+            Err(PutFault::Memory) => Err(End::Memory),
         },
-        Move::Turn => Some(Came::Turn),
-        Move::Waits => Some(Came::Waits),
-        Move::Ended => Some(Came::Ended),
-        Move::Fault => Some(Came::Fault(core.fault, core.active.line)),
-        Move::Stuck => Some(Came::Stuck(core.why)),
-        Move::Memory => Some(Came::Memory),
+        Move::Waits => Err(End::TurnLimit),
+        Move::Ends => Err(core.end),
     }
 }
 
-/// Steps up to the next turn, or to what ends or holds up the run.
+/// Steps with so many turns left, up to the first turn that begins, or to the answer of the run.
 #[inline(always)]
-fn advance<K: Sink>(routines: &[Routine], core: &mut Core, may: bool, sink: &mut K) -> Came
-    ensures came { CameTo routines.now (shown routines.now core.old) (shown routines.now core.new) may result (K.written sink.old) (K.written sink.new) }
+fn advance<K: Sink>(
+    routines: &[Routine],
+    core: &mut Core,
+    left: u128,
+    sink: &mut K,
+) -> Result<(), End>
+    ensures advanced { Advanced routines.now (shown routines.now core.old) (shown routines.now core.new) left result (K.written sink.old) (K.written sink.new) }
     ensures later { K.faults sink.old ≤ K.faults sink.new }
-    ensures counted { result ≡ Came.WriteFault → Rose (K.faults sink.old) (K.faults sink.new) }
-    ensures same { result ≢ Came.WriteFault → K.faults sink.new ≡ K.faults sink.old }
+    ensures counted { IsErrOf result End.WriteFault → Rose (K.faults sink.old) (K.faults sink.new) }
+    ensures same { result ≢ Err End.WriteFault → K.faults sink.new ≡ K.faults sink.old }
 {
     let mut lines = lines_at(routines, core.active.routine);
     loop {
         if next_row(routines, lines, core) {
             continue;
         }
-        if next_turn(routines, lines, core, may) {
-            return Came::Turn;
+        if next_turn(routines, lines, core, left > 0) {
+            return Ok(());
         }
-        if let Some(came) = pass(routines, core, may, sink) {
-            return came;
+        match pass(routines, core, left, sink) {
+            Ok(true) => return Ok(()),
+            Ok(false) => lines = lines_at(routines, core.active.routine),
+            Err(end) => return Err(end),
         }
-        lines = lines_at(routines, core.active.routine);
     }
 }
 
@@ -108,23 +116,23 @@ fn counted(turns: u128) -> u64
     }
 }
 
-/// Steps with so many turns. What comes of it is never a turn.
+/// Steps with so many turns.
 #[inline(never)]
-pub fn go<K: Sink>(routines: &[Routine], core: &mut Core, turns: u128, sink: &mut K) -> Came
-    ensures came { RanTo routines.now (shown routines.now core.old) (shown routines.now core.new) turns result (K.written sink.old) (K.written sink.new) }
+pub fn go<K: Sink>(routines: &[Routine], core: &mut Core, turns: u128, sink: &mut K) -> End
+    ensures runs { RunsTo routines.now (shown routines.now core.old) turns result (shown routines.now core.new) (K.written sink.old) (K.written sink.new) }
     ensures later { K.faults sink.old ≤ K.faults sink.new }
-    ensures counted { result ≡ Came.WriteFault → Rose (K.faults sink.old) (K.faults sink.new) }
-    ensures same { result ≢ Came.WriteFault → K.faults sink.new ≡ K.faults sink.old }
+    ensures counted { result ≡ End.WriteFault → Rose (K.faults sink.old) (K.faults sink.new) }
+    ensures same { result ≢ End.WriteFault → K.faults sink.new ≡ K.faults sink.old }
 {
     let mut left = turns;
     loop {
-        match advance(routines, core, left > 0, sink) {
-            Came::Turn => {
+        match advance(routines, core, left, sink) {
+            Ok(()) => {
                 left -= 1;
                 let used = sweep(routines, core, counted(left));
                 left -= u128::from(used);
             }
-            came => return came,
+            Err(end) => return end,
         }
     }
 }

@@ -1,6 +1,10 @@
-use a95_base::FaultKind;
+//! The machine's own state, and what comes of a line. `specs/Shown.antt` says what state of the definition it stands for.
+ghost use Rattle.std.specs.Prelude.{◌≡◌, ◌≢◌};
+ghost use Rattle.loop_machine.specs.Moves.{end_of};
+
+use crate::end::End;
 use loop_tree::{Atom, Stack};
-use loop_values::{Blocks, Links, Numbers, Words};
+use loop_values::{Blocks, Halt, Links, Numbers, Words};
 use record_io::Record;
 use sqlite_items::Items;
 use std::alloc::Global;
@@ -41,10 +45,8 @@ pub struct Core {
     pub pending: Record,
     pub input: Items<u8>,
     pub taken: usize,
-    /// Of the fault, where one came.
-    pub fault: FaultKind,
-    /// The number of the stuck state, where one came.
-    pub why: u8,
+    /// What the run comes to, where a line ended it.
+    pub end: End,
 }
 
 /// What came of a line. It has no fields, so that it is passed in a register.
@@ -58,27 +60,26 @@ pub enum Move {
     Record,
     /// A turn would begin and none is left, so nothing was done.
     Waits,
-    Ended,
-    /// The kind is kept.
-    Fault,
-    /// The number is kept.
-    Stuck,
-    /// An allocation was refused.
-    Memory,
+    /// The run ends, and the core keeps how.
+    Ends,
 }
 
-/// What steps in a row came to.
-#[derive(Clone, Copy, Debug)]
-pub enum Came {
-    /// A turn began.
-    Turn,
-    /// A turn would begin and none is left.
-    Waits,
-    Ended,
-    /// With the line that f_at set in the innermost call.
-    Fault(FaultKind, u32),
-    Stuck(u8),
-    /// The sink failed.
-    WriteFault,
-    Memory,
+/// The run ends so.
+pub fn ends(core: &mut Core, end: End) -> Move
+    ensures moves { result ≡ Move.Ends }
+    ensures core { core.new ≡ record core.old { end = end } }
+{
+    core.end = end;
+    Move::Ends
+}
+
+/// The run ends by what halts it.
+pub fn halts(core: &mut Core, halt: Halt) -> Move
+    ensures moves { result ≡ Move.Ends }
+    ensures core { core.new ≡ record core.old { end = end_of halt } }
+{
+    match halt {
+        Halt::Stuck(why) => ends(core, End::Stuck { why }),
+        Halt::Memory => ends(core, End::Memory),
+    }
 }

@@ -5,14 +5,16 @@ ghost use Rattle.loop_machine.specs.Shown.{shown};
 ghost use Rattle.loop_machine.specs.Moves.{Did};
 
 use crate::calls::call;
+use crate::end::End;
 use crate::flow::{
     begin_down, begin_forever, begin_up, choose, close, leave, leave_loop, line_at, next_iteration,
     pass_other, set_line,
 };
 use crate::routine::Routine;
 use crate::rows::{block_row, int_row, record_row, text_row};
-use crate::state::{Core, Move};
+use crate::state::{Core, Move, ends};
 use crate::values::atom;
+use a95_base::Line;
 use loop_tree::{CodeLine, ControlRow, Row};
 
 /// A row that says where the program goes on.
@@ -26,10 +28,10 @@ fn control_row(routines: &[Routine], core: &mut Core, row: &ControlRow, may: boo
         ControlRow::Continue => next_iteration(routines, core, may),
         ControlRow::Return => leave(routines, core, may),
         ControlRow::Call(n, arguments) => call(routines, core, *n, arguments.as_slice(), may),
-        ControlRow::Stop => Move::Ended,
+        ControlRow::Stop => ends(core, End::Ended),
         ControlRow::Fault(kind) => {
-            core.fault = *kind;
-            Move::Fault
+            let line = Line(core.active.line);
+            ends(core, End::Fault { kind: *kind, line })
         }
         ControlRow::At(n) => set_line(routines, core, *n, may),
     }

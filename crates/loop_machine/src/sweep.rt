@@ -1,12 +1,13 @@
-//! Turns of a loop whose body has rows of integers and cells alone. The rows are read once for all turns, with the references of their blocks.
+//! Turns of a loop whose body has rows of integers and cells alone. The rows are read once for all turns, with the
+//! references of their blocks.
 //! Where one of them doesn't lead on, or no turn follows, the step that any line takes finds out what comes then.
 ghost use Rattle.std.specs.Prelude.{◌≡◌, ◌≤◌, ◌<◌, ◌+◌, ◌^◌, ◌+ℤ◌, pos, int_lt, [], ◌∷◌, length, slice_get, Some, Ok, IsTrue, true, false, IfSome};
 ghost use Rattle.std.specs.Int.{w64, int_wrap};
 ghost use Rattle.loop_tree.specs.State.{Goes, with_at};
 ghost use Rattle.loop_tree.specs.Values.{number_at, atom_in};
 ghost use Rattle.loop_tree.specs.Machine.{row_line, step, rest_of};
-ghost use Rattle.loop_tree.specs.Run.{trail, Leads};
 ghost use Rattle.loop_machine.specs.Shown.{shown, lines_in};
+ghost use Rattle.loop_machine.specs.Steps.{ReachesSilently};
 ghost use Rattle.loop_machine.specs.Plans.{atom_of_index, atom_of_operand, found_in, row_of, IsSettled, Plans, assembled, placed};
 
 use crate::flow::lines_at;
@@ -387,7 +388,7 @@ fn turns_apart(
     requires closes { slice_get lines.now (core.old.active.place + length plan.now) ≡ Some CodeLine.Close }
     requires innermost { core.old.active.held ≡ Held.Upward k bound core.old.active.place ∷ rest_of core.old.active.held }
     ensures within { result ≤ may }
-    ensures led { Leads routines.now (trail 0 [] (shown routines.now (assembled core.old ints.old blocks.old))) (trail result [] (shown routines.now (assembled core.new ints.new blocks.new))) }
+    ensures led { ReachesSilently routines.now (shown routines.now (assembled core.old ints.old blocks.old)) result (shown routines.now (assembled core.new ints.new blocks.new)) }
 {
     let body = core.active.place;
     let mut own = core.active.indices.get(k);
@@ -446,7 +447,7 @@ fn turns(
     requires closes { slice_get lines.now (core.old.active.place + length plan.now) ≡ Some CodeLine.Close }
     requires innermost { core.old.active.held ≡ Held.Upward k bound core.old.active.place ∷ rest_of core.old.active.held }
     ensures within { result ≤ may }
-    ensures led { Leads routines.now (trail 0 [] (shown routines.now core.old)) (trail result [] (shown routines.now core.new)) }
+    ensures led { ReachesSilently routines.now (shown routines.now core.old) result (shown routines.now core.new) }
 {
     let mut ints = mem::replace(&mut core.active.ints, Numbers::new(core.alloc));
     let mut blocks = mem::replace(&mut core.blocks, Blocks::new(core.alloc));
@@ -473,7 +474,7 @@ fn turns(
 #[tactic(auto, using(crate::proofs::Ways::no_way))]
 pub fn sweep(routines: &[Routine], core: &mut Core, may: u64) -> u64
     ensures within { result ≤ may }
-    ensures led { Leads routines.now (trail 0 [] (shown routines.now core.old)) (trail result [] (shown routines.now core.new)) }
+    ensures led { ReachesSilently routines.now (shown routines.now core.old) result (shown routines.now core.new) }
 {
     let Some(Held::Upward { k, bound, body }) = core.active.held.top() else {
         return 0;

@@ -1,20 +1,20 @@
 //! What rows read.
-ghost use Rattle.std.specs.Prelude.{◌≡◌, pos, length, drop, IfOk};
+ghost use Rattle.std.specs.Prelude.{◌≡◌, pos, length, drop};
 ghost use Rattle.record_io.specs.Looked.{reading};
 ghost use Rattle.a95_base.specs.Input.{next_value};
 ghost use Rattle.loop_tree.specs.Values.{atom_in, text_in, block_in, holds, is_left, look_of, taken, int_value, text_value};
+ghost use Rattle.loop_values.specs.Halts.{Yields};
 ghost use Rattle.loop_machine.specs.Shown.{shown};
 
 use crate::routine::Routine;
 use crate::state::Core;
 use a95_base::Bytes;
-use loop_tree::{Atom, IntValue, Reference, TextAtom, TextValue};
+use loop_tree::{Atom, IntValue, Reference, StuckState, TextAtom, TextValue};
 use loop_values::{
-    Link, Links, Numbers, Words, char, code, compare, fit, index, join, left, operation, over,
-    power, right, sub, trim, truth, wrap, xor,
+    Halt, Link, Links, Numbers, Words, char, code, compare, fit, index, join, left, operation,
+    over, power, right, sub, trim, truth, wrap, xor,
 };
 use record_io::{Looked, look};
-use std::alloc::{AllocError, Global};
 
 /// The value of an integer atom.
 pub fn atom(ints: &Numbers, indices: &Numbers, a: Atom) -> i64
@@ -83,13 +83,12 @@ fn look_code(rest: &[u8], comma: bool) -> i64
 }
 
 /// The integer that is next, where f_take takes it.
-fn next_integer(rest: &[u8], comma: bool) -> Result<i64, u8>
+fn next_integer(rest: &[u8], comma: bool) -> Result<i64, StuckState>
     ensures { result ≡ taken (next_value comma rest.now) }
 {
     match look(rest, comma) {
         Looked::Value { value, .. } => Ok(i64::from(value)),
-        Looked::End => Err(8),
-        Looked::Bad => Err(8),
+        Looked::End | Looked::Bad => Err(StuckState::NoInteger),
     }
 }
 
@@ -104,7 +103,7 @@ fn is_left(rest: &[u8]) -> bool
 
 /// The value of the right side of `iN = ..;`.
 #[tactic(auto, unfolding(loop_tree::specs::Values::int_value))]
-pub fn int_value(routines: &[Routine], core: &Core, value: &IntValue) -> Result<i64, u8>
+pub fn int_value(routines: &[Routine], core: &Core, value: &IntValue) -> Result<i64, StuckState>
     ensures { result ≡ int_value (shown routines.now core.now) value.now }
 {
     let _ = routines;
@@ -149,12 +148,8 @@ pub fn int_value(routines: &[Routine], core: &Core, value: &IntValue) -> Result<
 
 /// The bytes of the right side of `sN = ..;`.
 #[tactic(auto, unfolding(loop_tree::specs::Values::text_value))]
-pub fn text_value(
-    routines: &[Routine],
-    core: &Core,
-    value: &TextValue,
-) -> Result<Result<Bytes, u8>, AllocError>
-    ensures { IfOk result (λ made. made ≡ text_value (shown routines.now core.now) value.now) }
+pub fn text_value(routines: &[Routine], core: &Core, value: &TextValue) -> Result<Bytes, Halt>
+    ensures { Yields (text_value (shown routines.now core.now) value.now) result }
 {
     let _ = routines;
     let alloc = core.alloc;
@@ -162,15 +157,13 @@ pub fn text_value(
     let indices = &core.active.indices;
     let texts = &core.active.texts;
     match value {
-        TextValue::Atom(t) => Ok(Ok(Bytes::from_slice(alloc, text(texts, t))?)),
+        TextValue::Atom(t) => Ok(Bytes::from_slice(alloc, text(texts, t))?),
         TextValue::Cell(n, a) => {
             let link = core.active.text_blocks.get(*n);
-            match core.blocks.text_cell(link, atom(ints, indices, *a)) {
-                Ok(found) => Ok(Ok(Bytes::from_slice(alloc, found)?)),
-                Err(why) => Ok(Err(why)),
-            }
+            let found = core.blocks.text_cell(link, atom(ints, indices, *a))?;
+            Ok(Bytes::from_slice(alloc, found)?)
         }
-        TextValue::Join(t, u) => Ok(Ok(join(alloc, text(texts, t), text(texts, u))?)),
+        TextValue::Join(t, u) => Ok(join(alloc, text(texts, t), text(texts, u))?),
         TextValue::Part(t, a, b) => sub(
             alloc,
             text(texts, t),
@@ -184,9 +177,9 @@ pub fn text_value(
             text(texts, u),
         ),
         TextValue::Fit(t, a) => fit(alloc, text(texts, t), atom(ints, indices, *a)),
-        TextValue::Trim(t) => Ok(Ok(trim(alloc, text(texts, t))?)),
-        TextValue::Left(t) => Ok(Ok(left(alloc, text(texts, t))?)),
-        TextValue::Right(t) => Ok(Ok(right(alloc, text(texts, t))?)),
+        TextValue::Trim(t) => Ok(trim(alloc, text(texts, t))?),
+        TextValue::Left(t) => Ok(left(alloc, text(texts, t))?),
+        TextValue::Right(t) => Ok(right(alloc, text(texts, t))?),
         TextValue::Char(a) => char(alloc, atom(ints, indices, *a)),
     }
 }

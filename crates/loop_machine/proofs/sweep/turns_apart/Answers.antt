@@ -1,15 +1,15 @@
-use Rattle.std.proofs.Common.{◌≡◌, ℕ, ◌+◌, ◌-◌, List, [], ◌∷◌, drop, length, Option, Some, true, refl, ap, sym, ◌∙◌, subst, arith, rules}
+use Rattle.std.proofs.Common.{◌≡◌, ℕ, ◌+◌, ◌-◌, List, ◌∷◌, drop, length, Option, Some, true, refl, ap, sym, ◌∙◌, subst, arith, rules}
 use Rattle.std.specs.Prelude.{slice_get}
 use Rattle.loop_tree.specs.declared.tree.CodeLine.{CodeLine}
 use Rattle.loop_tree.specs.declared.tree.CodeLine.TheVariants as code
-use Rattle.loop_tree.specs.Run.{trail, Leads}
 use Rattle.loop_tree.specs.Values.{number_at}
 use Rattle.loop_machine.specs.declared.state.Core.{Core}
 use Rattle.loop_machine.specs.Shown.{shown, lines_in}
+use Rattle.loop_machine.specs.Steps.{ReachesSilently}
 use Rattle.loop_machine.specs.Plans.{IsSettled, assembled, placed, row_of}
 use Rattle.loop_machine.proofs.Variables.{set_same}
 use Rattle.loop_machine.proofs.Exits.{drop_next}
-use Rattle.loop_machine.proofs.Ways.{no_way, led_on}
+use Rattle.loop_machine.proofs.Ways.{no_way, step_on}
 use Rattle.loop_machine.proofs.Plans.{first_at}
 use Rattle.loop_machine.proofs.Turns.{row_leads}
 use Rattle.loop_machine.proofs.sweep.turns_apart.Goals as goal
@@ -23,7 +23,7 @@ loop-row-init c =
     let all : length plan - length plan ≡ 0 = omega arith in
     record {
       within = omega arith;
-      led = subst (λ (i : ℕ). Leads fs (trail 0 [] (shown fs core)) (trail 0 [] (shown fs (placed core i)))) none (no_way fs (shown fs core));
+      led = subst (λ (i : ℕ). ReachesSilently fs (shown fs core) 0 (shown fs (placed core i))) none (no_way fs (shown fs core));
       rows = omega arith;
       behind = ap (λ (i : ℕ). drop i plan) all;
       routine = refl;
@@ -61,7 +61,7 @@ loop-row-preserved-in-Some c =
     let later : length plan - length more ≡ length plan - length c.loop-row.rest.now + 1 = omega arith in
     record {
       within = there.within;
-      led = subst (λ (i : ℕ). Leads fs (trail 0 [] start) (trail c.loop-row.used [] (shown fs (placed (assembled c.loop-row.core c.obey.new.ints c.obey.new.blocks) i)))) next
+      led = subst (λ (i : ℕ). ReachesSilently fs start c.loop-row.used (shown fs (placed (assembled c.loop-row.core c.obey.new.ints c.obey.new.blocks) i))) next
           (row_leads fs start c.loop-row.core c.loop-row.ints c.obey.new.ints c.loop-row.blocks c.obey.new.blocks c.loop-row.used (from + at) c.args.k p there.led line
           (c.obey.ensures.led c.if-not-obey.false));
       rows = omega arith;
@@ -81,8 +81,8 @@ returns-then-not-begin_again-clause-led c =
     let plan = c.args.plan.now in
     let none : length c.loop-row.rest.now ≡ 0 = c.in_default.ensures.cases in
     let close : from + (length plan - length c.loop-row.rest.now) ≡ from + length plan = omega arith in
-    let there = subst (λ (i : ℕ). Leads fs (trail 0 [] start) (trail c.loop-row.used [] (shown fs (placed (assembled c.loop-row.core c.loop-row.ints c.loop-row.blocks) i)))) close c.loop-row.invariant.led in
-    subst (λ (core : Core). Leads fs (trail 0 [] start) (trail c.loop-row.used [] (shown fs (placed (assembled core c.loop-row.ints c.loop-row.blocks) (from + length plan)))))
+    let there = subst (λ (i : ℕ). ReachesSilently fs start c.loop-row.used (shown fs (placed (assembled c.loop-row.core c.loop-row.ints c.loop-row.blocks) i))) close c.loop-row.invariant.led in
+    subst (λ (core : Core). ReachesSilently fs start c.loop-row.used (shown fs (placed (assembled core c.loop-row.ints c.loop-row.blocks) (from + length plan))))
     (sym (c.begin_again.ensures.stays c.if-not-begin_again.true)) there
 
 pub loop-row-preserved : goal.loop-row-preserved
@@ -95,13 +95,13 @@ loop-row-preserved c =
     let begun = c.begin_again.ensures.begun c.if-not-begin_again.false in
     let empty : length c.loop-row.rest.now ≡ 0 = c.in_default.ensures.cases in
     let close : from + (length plan - length c.loop-row.rest.now) ≡ from + length plan = omega arith in
-    let led = subst (λ (i : ℕ). Leads fs (trail 0 [] start) (trail c.loop-row.used [] (shown fs (placed (assembled c.loop-row.core c.loop-row.ints c.loop-row.blocks) i)))) close there.led in
+    let led = subst (λ (i : ℕ). ReachesSilently fs start c.loop-row.used (shown fs (placed (assembled c.loop-row.core c.loop-row.ints c.loop-row.blocks) i))) close there.led in
     let none : from ≡ from + (length plan - length plan) = omega arith in
     let all : length plan - length plan ≡ 0 = omega arith in
     record {
       within = search rules;
-      led = subst (λ (i : ℕ). Leads fs (trail 0 [] start) (trail (c.loop-row.used + 1) [] (shown fs (placed (assembled c.begin_again.new.core c.loop-row.ints c.loop-row.blocks) i)))) none
-          (led_on fs start (shown fs (placed (assembled c.loop-row.core c.loop-row.ints c.loop-row.blocks) (from + length plan))) (shown fs (placed (assembled c.begin_again.new.core c.loop-row.ints c.loop-row.blocks) from)) c.loop-row.used true led
+      led = subst (λ (i : ℕ). ReachesSilently fs start (c.loop-row.used + 1) (shown fs (placed (assembled c.begin_again.new.core c.loop-row.ints c.loop-row.blocks) i))) none
+          (step_on fs start (shown fs (placed (assembled c.loop-row.core c.loop-row.ints c.loop-row.blocks) (from + length plan))) (shown fs (placed (assembled c.begin_again.new.core c.loop-row.ints c.loop-row.blocks) from)) c.loop-row.used true led
           (c.begin_again.ensures.led c.if-not-begin_again.false));
       rows = omega arith;
       behind = ap (λ (i : ℕ). drop i plan) all;

@@ -1,14 +1,14 @@
-use Rattle.std.proofs.Common.{◌≡◌, ◌≤◌, ◌+◌, ◌*◌, ◌-◌, [], drop, length}
-use Rattle.loop_tree.specs.Run.{trail, Leads}
+use Rattle.std.proofs.Common.{◌≡◌, ◌≤◌, ◌+◌, ◌*◌, ◌-◌, drop, length}
 use Rattle.loop_tree.specs.Values.{number_at}
 use Rattle.loop_machine.specs.Shown.{shown}
+use Rattle.loop_machine.specs.Steps.{ReachesSilently}
 use Rattle.loop_machine.specs.Plans.{assembled, placed}
 use Rattle.loop_machine.proofs.sweep.turns_apart.Given as goal
 
 abbrev pub invariant-loop-row : goal.invariant-loop-row
 invariant-loop-row l = record {
   within : l.used ≤ l.may;
-  led : Leads l.routines (trail 0 [] (shown l.routines (assembled l.fn.core l.fn.ints l.fn.blocks))) (trail l.used [] (shown l.routines (placed (assembled l.core l.ints l.blocks) (l.fn.core.active.place + (length l.plan - length l.rest)))));
+  led : ReachesSilently l.routines (shown l.routines (assembled l.fn.core l.fn.ints l.fn.blocks)) l.used (shown l.routines (placed (assembled l.core l.ints l.blocks) (l.fn.core.active.place + (length l.plan - length l.rest))));
   rows : length l.rest ≤ length l.plan;
   behind : drop (length l.plan - length l.rest) l.plan ≡ l.rest;
   routine : l.core.active.routine ≡ l.fn.core.active.routine;
