@@ -6,7 +6,7 @@ use std::alloc::{AllocError, Global};
 
 /// The letter of a variable tells its type: `i`, `s`, `b` and `c`. Loop variables have the letter `k`, and no
 /// parameter has it.
-#[derive(Clone, Copy, Debug, PartialEq, Eq)]
+#[derive(Clone, Copy)]
 pub enum Letter {
     /// A 64-bit integer, `iN`.
     Int,
@@ -19,7 +19,7 @@ pub enum Letter {
 }
 
 /// An integer that is read: `iN`, `kN` or a signed decimal.
-#[derive(Clone, Copy, Debug, PartialEq, Eq)]
+#[derive(Clone, Copy)]
 pub enum Atom {
     Int(u32),
     Loop(u32),
@@ -27,7 +27,7 @@ pub enum Atom {
 }
 
 /// A text that is read: `sN` or a text between quotes.
-#[derive(Debug, Drop)]
+#[derive(Drop)]
 pub enum TextAtom {
     Variable(u32),
     Literal(Boxed<Bytes>),
@@ -49,14 +49,14 @@ impl TextAtom {
 }
 
 /// A reference to a block of integers, `bN`, or of texts, `cN`.
-#[derive(Clone, Copy, Debug, PartialEq, Eq)]
+#[derive(Clone, Copy)]
 pub enum Reference {
     Ints(u32),
     Texts(u32),
 }
 
 /// What a call passes.
-#[derive(Debug, Drop)]
+#[derive(Drop)]
 pub enum Argument {
     Int(Atom),
     Text(TextAtom),
@@ -77,7 +77,7 @@ impl Argument {
 }
 
 /// The operators between two integers. Comparisons give 0 or 1.
-#[derive(Clone, Copy, Debug, PartialEq, Eq)]
+#[derive(Clone, Copy)]
 pub enum Operator {
     Add,
     Subtract,

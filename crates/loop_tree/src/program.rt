@@ -7,7 +7,7 @@ use std::marker::Model;
 
 /// A program of LoopC. Contracts see the list of its functions, which is all that the grammar demands, so each
 /// program has exactly one text.
-#[derive(Debug, Drop)]
+#[derive(Drop)]
 pub struct LoopProgram {
     functions: Items<Function>,
 }

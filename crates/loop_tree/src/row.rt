@@ -3,7 +3,7 @@ use a95_base::FaultKind;
 use sqlite_items::{Boxed, Items};
 
 /// What stands on the right of `iN = ..;`.
-#[derive(Debug, Drop)]
+#[derive(Drop)]
 pub enum IntValue {
     Atom(Atom),
     Operation(Atom, Operator, Atom),
@@ -38,7 +38,7 @@ pub enum IntValue {
 }
 
 /// What stands on the right of `sN = ..;`.
-#[derive(Debug, Drop)]
+#[derive(Drop)]
 pub enum TextValue {
     Atom(TextAtom),
     /// `cN[A]`
@@ -62,7 +62,7 @@ pub enum TextValue {
 }
 
 /// A row that makes, changes, names or frees a block. The first number is that of the reference that is set.
-#[derive(Debug, Drop)]
+#[derive(Drop)]
 pub enum BlockRow {
     /// `bN[A] = A;`
     StoreInt(u32, Atom, Atom),
@@ -93,7 +93,7 @@ pub enum BlockRow {
 }
 
 /// A row that says where the program goes on.
-#[derive(Debug, Drop)]
+#[derive(Drop)]
 pub enum ControlRow {
     Break,
     Continue,
@@ -109,7 +109,7 @@ pub enum ControlRow {
 }
 
 /// A row that adds to the pending record, writes it, or skips a record of the input.
-#[derive(Debug, Drop)]
+#[derive(Drop)]
 pub enum RecordRow {
     /// `f_put_int(A);`
     PutInt(Atom),
@@ -124,7 +124,7 @@ pub enum RecordRow {
 }
 
 /// A line that opens and closes no brace.
-#[derive(Debug, Drop)]
+#[derive(Drop)]
 pub enum Row {
     /// `iN = ..;`
     Int(u32, IntValue),

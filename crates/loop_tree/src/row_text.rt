@@ -1,12 +1,12 @@
 //! How rows and lines are written: `Display` gives the spelling of `specs/Text.antt`.
 
 ghost use Rattle.std.specs.Prelude.{Some};
-ghost use Rattle.loop_tree.specs.Text.{argument_text, listed_by, int_value_text, text_value_text, block_row_text, control_row_text, record_row_text, row_text, spell};
+ghost use Rattle.loop_tree.specs.Text.{atom_text, text_atom_text, reference_text, argument_text, listed, listed_by, call_text, set_text_of, int_value_text, text_value_text, block_row_text, control_row_text, record_row_text, row_text, spell};
 
-use crate::atom::Argument;
+use crate::atom::{Argument, Atom, Reference, TextAtom};
 use crate::row::{BlockRow, ControlRow, IntValue, RecordRow, Row, TextValue};
 use crate::tree::CodeLine;
-use std::fmt;
+use std::fmt::{self, Display};
 
 /// The arguments of a call.
 #[derive(Clone, Copy)]
@@ -42,27 +42,105 @@ impl fmt::Display for OtherArguments<'_> {
     }
 }
 
+/// The call of a built-in: its name and what it reads.
+#[derive(Clone, Copy)]
+struct OfAtom(&'static str, Atom);
+
+impl fmt::Display for OfAtom {
+    ghost output = { λ c. Some (call_text c.0.now (atom_text c.1)) };
+
+    fn fmt<W: fmt::Write>(&self, f: &mut fmt::Formatter<W>) -> fmt::Result {
+        let OfAtom(name, a) = self;
+        write!(f, "{name}({a})")
+    }
+}
+
+#[derive(Clone, Copy)]
+struct OfAtoms(&'static str, Atom, Atom);
+
+impl fmt::Display for OfAtoms {
+    ghost use Rattle.std.specs.Prelude.{[], ◌∷◌};
+
+    ghost output = { λ c. Some (call_text c.0.now (listed (atom_text c.1 ∷ atom_text c.2 ∷ []))) };
+
+    fn fmt<W: fmt::Write>(&self, f: &mut fmt::Formatter<W>) -> fmt::Result {
+        let OfAtoms(name, a, b) = self;
+        write!(f, "{name}({a}, {b})")
+    }
+}
+
+#[derive(Clone, Copy)]
+struct OfText<'a>(&'static str, &'a TextAtom);
+
+impl fmt::Display for OfText<'_> {
+    ghost output = { λ c. Some (call_text c.0.now (text_atom_text c.1.now)) };
+
+    fn fmt<W: fmt::Write>(&self, f: &mut fmt::Formatter<W>) -> fmt::Result {
+        let OfText(name, t) = self;
+        write!(f, "{name}({t})")
+    }
+}
+
+#[derive(Clone, Copy)]
+struct OfTexts<'a>(&'static str, &'a TextAtom, &'a TextAtom);
+
+impl fmt::Display for OfTexts<'_> {
+    ghost use Rattle.std.specs.Prelude.{[], ◌∷◌};
+
+    ghost output = { λ c. Some (call_text c.0.now (listed (text_atom_text c.1.now ∷ text_atom_text c.2.now ∷ []))) };
+
+    fn fmt<W: fmt::Write>(&self, f: &mut fmt::Formatter<W>) -> fmt::Result {
+        let OfTexts(name, t, u) = self;
+        write!(f, "{name}({t}, {u})")
+    }
+}
+
+#[derive(Clone, Copy)]
+struct OfReference(&'static str, Reference);
+
+impl fmt::Display for OfReference {
+    ghost output = { λ c. Some (call_text c.0.now (reference_text c.1)) };
+
+    fn fmt<W: fmt::Write>(&self, f: &mut fmt::Formatter<W>) -> fmt::Result {
+        let OfReference(name, r) = self;
+        write!(f, "{name}({r})")
+    }
+}
+
+/// A reference that is set to a block: its letter and number, and the built-in that makes the block.
+#[derive(Clone, Copy)]
+struct Makes(&'static str, u32, OfAtom);
+
+impl fmt::Display for Makes {
+    ghost output = { λ m. Some (set_text_of m.0.now m.1 (call_text m.2.0.now (atom_text m.2.1))) };
+
+    fn fmt<W: fmt::Write>(&self, f: &mut fmt::Formatter<W>) -> fmt::Result {
+        let Makes(letter, n, made) = self;
+        write!(f, "{letter}{n} = {made}")
+    }
+}
+
 impl fmt::Display for IntValue {
     ghost output = { λ v. Some (int_value_text v) };
 
     fn fmt<W: fmt::Write>(&self, f: &mut fmt::Formatter<W>) -> fmt::Result {
         match self {
-            IntValue::Atom(a) => write!(f, "{a}"),
+            IntValue::Atom(a) => a.fmt(f),
             IntValue::Operation(a, operator, b) => write!(f, "{a} {operator} {b}"),
             IntValue::Cell(n, a) => write!(f, "b{n}[{a}]"),
-            IntValue::Wrap(a) => write!(f, "f_wrap({a})"),
-            IntValue::Power(a, b) => write!(f, "f_pow({a}, {b})"),
-            IntValue::Xor(a, b) => write!(f, "f_xor({a}, {b})"),
-            IntValue::Length(t) => write!(f, "f_len({t})"),
-            IntValue::Index(t, u) => write!(f, "f_index({t}, {u})"),
-            IntValue::Code(t) => write!(f, "f_code({t})"),
-            IntValue::Compare(t, u) => write!(f, "f_cmp({t}, {u})"),
-            IntValue::Size(r) => write!(f, "f_size({r})"),
-            IntValue::Live(r) => write!(f, "f_live({r})"),
-            IntValue::Depth => write!(f, "f_depth()"),
-            IntValue::More => write!(f, "f_more()"),
-            IntValue::Look(a) => write!(f, "f_look({a})"),
-            IntValue::Take(a) => write!(f, "f_take({a})"),
+            IntValue::Wrap(a) => OfAtom("f_wrap", *a).fmt(f),
+            IntValue::Power(a, b) => OfAtoms("f_pow", *a, *b).fmt(f),
+            IntValue::Xor(a, b) => OfAtoms("f_xor", *a, *b).fmt(f),
+            IntValue::Length(t) => OfText("f_len", t).fmt(f),
+            IntValue::Index(t, u) => OfTexts("f_index", t, u).fmt(f),
+            IntValue::Code(t) => OfText("f_code", t).fmt(f),
+            IntValue::Compare(t, u) => OfTexts("f_cmp", t, u).fmt(f),
+            IntValue::Size(r) => OfReference("f_size", *r).fmt(f),
+            IntValue::Live(r) => OfReference("f_live", *r).fmt(f),
+            IntValue::Depth => f.write_str("f_depth()"),
+            IntValue::More => f.write_str("f_more()"),
+            IntValue::Look(a) => OfAtom("f_look", *a).fmt(f),
+            IntValue::Take(a) => OfAtom("f_take", *a).fmt(f),
         }
     }
 }
@@ -72,16 +150,16 @@ impl fmt::Display for TextValue {
 
     fn fmt<W: fmt::Write>(&self, f: &mut fmt::Formatter<W>) -> fmt::Result {
         match self {
-            TextValue::Atom(t) => write!(f, "{t}"),
+            TextValue::Atom(t) => t.fmt(f),
             TextValue::Cell(n, a) => write!(f, "c{n}[{a}]"),
-            TextValue::Join(t, u) => write!(f, "f_cat({t}, {u})"),
+            TextValue::Join(t, u) => OfTexts("f_cat", t, u).fmt(f),
             TextValue::Part(t, a, b) => write!(f, "f_sub({t}, {a}, {b})"),
             TextValue::Over(t, a, u) => write!(f, "f_over({t}, {a}, {u})"),
             TextValue::Fit(t, a) => write!(f, "f_fit({t}, {a})"),
-            TextValue::Trim(t) => write!(f, "f_trim({t})"),
-            TextValue::Left(t) => write!(f, "f_left({t})"),
-            TextValue::Right(t) => write!(f, "f_right({t})"),
-            TextValue::Char(a) => write!(f, "f_chr({a})"),
+            TextValue::Trim(t) => OfText("f_trim", t).fmt(f),
+            TextValue::Left(t) => OfText("f_left", t).fmt(f),
+            TextValue::Right(t) => OfText("f_right", t).fmt(f),
+            TextValue::Char(a) => OfAtom("f_chr", *a).fmt(f),
         }
     }
 }
@@ -93,17 +171,17 @@ impl fmt::Display for BlockRow {
         match self {
             BlockRow::StoreInt(n, i, a) => write!(f, "b{n}[{i}] = {a}"),
             BlockRow::StoreText(n, i, t) => write!(f, "c{n}[{i}] = {t}"),
-            BlockRow::New(n, a) => write!(f, "b{n} = f_new({a})"),
-            BlockRow::Temp(n, a) => write!(f, "b{n} = f_temp({a})"),
-            BlockRow::Copy(n, a) => write!(f, "b{n} = f_copy({a})"),
-            BlockRow::Mark(n, a) => write!(f, "b{n} = f_mark({a})"),
+            BlockRow::New(n, a) => Makes("b", *n, OfAtom("f_new", *a)).fmt(f),
+            BlockRow::Temp(n, a) => Makes("b", *n, OfAtom("f_temp", *a)).fmt(f),
+            BlockRow::Copy(n, a) => Makes("b", *n, OfAtom("f_copy", *a)).fmt(f),
+            BlockRow::Mark(n, a) => Makes("b", *n, OfAtom("f_mark", *a)).fmt(f),
             BlockRow::NewText(n, a, b) => write!(f, "c{n} = f_new_text({a}, {b})"),
-            BlockRow::TempText(n, a) => write!(f, "c{n} = f_temp_text({a})"),
-            BlockRow::CopyText(n, a) => write!(f, "c{n} = f_copy_text({a})"),
+            BlockRow::TempText(n, a) => Makes("c", *n, OfAtom("f_temp_text", *a)).fmt(f),
+            BlockRow::CopyText(n, a) => Makes("c", *n, OfAtom("f_copy_text", *a)).fmt(f),
             BlockRow::SameInts(n, m) => write!(f, "b{n} = b{m}"),
             BlockRow::SameTexts(n, m) => write!(f, "c{n} = c{m}"),
             BlockRow::Grow(r, a) => write!(f, "f_grow({r}, {a})"),
-            BlockRow::Free(r) => write!(f, "f_free({r})"),
+            BlockRow::Free(r) => OfReference("f_free", *r).fmt(f),
         }
     }
 }
@@ -113,14 +191,14 @@ impl fmt::Display for ControlRow {
 
     fn fmt<W: fmt::Write>(&self, f: &mut fmt::Formatter<W>) -> fmt::Result {
         match self {
-            ControlRow::Break => write!(f, "break"),
-            ControlRow::Continue => write!(f, "continue"),
-            ControlRow::Return => write!(f, "return"),
+            ControlRow::Break => f.write_str("break"),
+            ControlRow::Continue => f.write_str("continue"),
+            ControlRow::Return => f.write_str("return"),
             ControlRow::Call(n, arguments) => {
                 let arguments = Arguments(arguments.as_slice());
                 write!(f, "f{n}({arguments})")
             }
-            ControlRow::Stop => write!(f, "f_stop()"),
+            ControlRow::Stop => f.write_str("f_stop()"),
             ControlRow::Fault(kind) => {
                 let number = kind.number();
                 write!(f, "f_fault({number})")
@@ -135,11 +213,11 @@ impl fmt::Display for RecordRow {
 
     fn fmt<W: fmt::Write>(&self, f: &mut fmt::Formatter<W>) -> fmt::Result {
         match self {
-            RecordRow::PutInt(a) => write!(f, "f_put_int({a})"),
-            RecordRow::PutLog(a) => write!(f, "f_put_log({a})"),
-            RecordRow::PutText(t) => write!(f, "f_put_text({t})"),
-            RecordRow::Write => write!(f, "f_record()"),
-            RecordRow::Skip => write!(f, "f_skip()"),
+            RecordRow::PutInt(a) => OfAtom("f_put_int", *a).fmt(f),
+            RecordRow::PutLog(a) => OfAtom("f_put_log", *a).fmt(f),
+            RecordRow::PutText(t) => OfText("f_put_text", t).fmt(f),
+            RecordRow::Write => f.write_str("f_record()"),
+            RecordRow::Skip => f.write_str("f_skip()"),
         }
     }
 }
@@ -154,9 +232,9 @@ impl fmt::Display for Row {
                 let value = value.get();
                 write!(f, "s{n} = {value}")
             }
-            Row::Block(row) => write!(f, "{row}"),
-            Row::Control(row) => write!(f, "{row}"),
-            Row::Record(row) => write!(f, "{row}"),
+            Row::Block(row) => row.fmt(f),
+            Row::Control(row) => row.fmt(f),
+            Row::Record(row) => row.fmt(f),
         }
     }
 }
@@ -168,15 +246,15 @@ impl fmt::Display for CodeLine {
         match self {
             CodeLine::Row(row) => write!(f, "{row};"),
             CodeLine::If(test) => write!(f, "if ({test}) {{"),
-            CodeLine::Else => write!(f, "}} else {{"),
+            CodeLine::Else => f.write_str("} else {"),
             CodeLine::ForUp(k, bound) => {
                 write!(f, "for (k{k} = 0; k{k} < {bound}; k{k} = k{k} + 1) {{")
             }
             CodeLine::ForDown(k, bound) => {
                 write!(f, "for (k{k} = {bound} - 1; k{k} >= 0; k{k} = k{k} - 1) {{")
             }
-            CodeLine::Forever => write!(f, "while (1) {{"),
-            CodeLine::Close => write!(f, "}}"),
+            CodeLine::Forever => f.write_str("while (1) {"),
+            CodeLine::Close => f.write_str("}"),
         }
     }
 }

@@ -4,18 +4,18 @@ ghost use Rattle.std.specs.Prelude.{◌≡◌, Some};
 ghost use Rattle.loop_tree.specs.Text.{atom_text, text_atom_text, reference_text, argument_text, operator_text, letter_text, is_plain, byte_text, bytes_text};
 
 use crate::atom::{Argument, Atom, Letter, Operator, Reference, TextAtom};
-use std::fmt;
+use std::fmt::{self, Display};
 
 impl fmt::Display for Letter {
     ghost output = { λ l. Some (letter_text l) };
 
     fn fmt<W: fmt::Write>(&self, f: &mut fmt::Formatter<W>) -> fmt::Result {
-        match self {
-            Letter::Int => write!(f, "i"),
-            Letter::Text => write!(f, "s"),
-            Letter::Ints => write!(f, "b"),
-            Letter::Texts => write!(f, "c"),
-        }
+        f.write_str(match self {
+            Letter::Int => "i",
+            Letter::Text => "s",
+            Letter::Ints => "b",
+            Letter::Texts => "c",
+        })
     }
 }
 
@@ -26,7 +26,7 @@ impl fmt::Display for Atom {
         match self {
             Atom::Int(n) => write!(f, "i{n}"),
             Atom::Loop(k) => write!(f, "k{k}"),
-            Atom::Number(z) => write!(f, "{z}"),
+            Atom::Number(z) => z.fmt(f),
         }
     }
 }
@@ -105,9 +105,9 @@ impl fmt::Display for Argument {
 
     fn fmt<W: fmt::Write>(&self, f: &mut fmt::Formatter<W>) -> fmt::Result {
         match self {
-            Argument::Int(a) => write!(f, "{a}"),
-            Argument::Text(t) => write!(f, "{t}"),
-            Argument::Block(r) => write!(f, "{r}"),
+            Argument::Int(a) => a.fmt(f),
+            Argument::Text(t) => t.fmt(f),
+            Argument::Block(r) => r.fmt(f),
         }
     }
 }
@@ -116,18 +116,18 @@ impl fmt::Display for Operator {
     ghost output = { λ o. Some (operator_text o) };
 
     fn fmt<W: fmt::Write>(&self, f: &mut fmt::Formatter<W>) -> fmt::Result {
-        match self {
-            Operator::Add => write!(f, "+"),
-            Operator::Subtract => write!(f, "-"),
-            Operator::Multiply => write!(f, "*"),
-            Operator::Divide => write!(f, "/"),
-            Operator::Remainder => write!(f, "%"),
-            Operator::Less => write!(f, "<"),
-            Operator::LessEqual => write!(f, "<="),
-            Operator::Equal => write!(f, "=="),
-            Operator::NotEqual => write!(f, "!="),
-            Operator::And => write!(f, "&"),
-            Operator::Or => write!(f, "|"),
-        }
+        f.write_str(match self {
+            Operator::Add => "+",
+            Operator::Subtract => "-",
+            Operator::Multiply => "*",
+            Operator::Divide => "/",
+            Operator::Remainder => "%",
+            Operator::Less => "<",
+            Operator::LessEqual => "<=",
+            Operator::Equal => "==",
+            Operator::NotEqual => "!=",
+            Operator::And => "&",
+            Operator::Or => "|",
+        })
     }
 }

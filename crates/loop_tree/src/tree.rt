@@ -3,7 +3,7 @@ use crate::row::Row;
 use sqlite_items::{Boxed, Items};
 
 /// A statement, with the statements inside it.
-#[derive(Debug, Drop)]
+#[derive(Drop)]
 pub enum Stmt {
     Row(Row),
     /// `if (A) {` .. `}`
@@ -19,14 +19,14 @@ pub enum Stmt {
 }
 
 /// A function: the letters of its parameters, which are numbered from 0, and its statements.
-#[derive(Debug, Drop)]
+#[derive(Drop)]
 pub struct Function {
     pub parameters: Items<Letter>,
     pub body: Items<Stmt>,
 }
 
 /// One line of a function's text below its head.
-#[derive(Debug, Drop)]
+#[derive(Drop)]
 pub enum CodeLine {
     Row(Row),
     If(Atom),

@@ -6,5 +6,5 @@ use Rattle.loop_tree.proofs.row_text.BlockRowDisplay.fmt.Goals as goal
 
 pub returns-in-CopyText-clause-writes : goal.returns-in-CopyText-clause-writes
 returns-in-CopyText-clause-writes g c = λ plain ok.
-    let P : BlockRow → Type 0 = λ r. HasWritten g.W.Write.write_str_gives c.args.f.now (block_row_text r) c.write-in-CopyText.new.self in
-    subst P (sym c.in-CopyText.is) (c.write-in-CopyText.ensures.writes plain ok)
+    let P : BlockRow → Type 0 = λ r. HasWritten g.W.Write.write_str_gives c.args.f.now (block_row_text r) c.fmt-in-CopyText.new.f in
+    subst P (sym c.in-CopyText.is) (c.fmt-in-CopyText.ensures.writes plain ok)
