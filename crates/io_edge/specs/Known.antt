@@ -6,6 +6,6 @@ use Rattle.std.specs.Io.KnownBytes.{Appends}
 abbrev pub Loads : Option (List ℕ) → List ℕ → List ℕ → Type 0
 Loads told old new = IfSome told (λ bytes. new ≡ old ++ bytes)
 
--- a front of the piece was appended
-abbrev pub AppendsFront : Option (List ℕ) → Option (List ℕ) → List ℕ → Type 0
-AppendsFront old new piece = (n : ℕ) × Appends old new (take n piece)
+-- a prefix of the piece was appended
+abbrev pub AppendsPrefix : Option (List ℕ) → Option (List ℕ) → List ℕ → Type 0
+AppendsPrefix old new piece = (n : ℕ) × Appends old new (take n piece)

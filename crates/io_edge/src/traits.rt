@@ -4,7 +4,7 @@ ghost use Rattle.std.specs.Prelude.{◌≡◌, ℕ, ◌<◌, ◌≤◌, List, �
 ghost use Rattle.std.specs.Io.{StartsWith};
 ghost use Rattle.std.specs.Io.KnownBytes.{Appends, Consumes, Keeps, IsAtEnd};
 ghost use Rattle.io_edge.specs.Causes.{Rose};
-ghost use Rattle.io_edge.specs.Known.{Loads, AppendsFront};
+ghost use Rattle.io_edge.specs.Known.{Loads, AppendsPrefix};
 
 use std::alloc::Global;
 
@@ -101,7 +101,7 @@ pub trait Sink {
     /// Appends all the bytes, a front of them where it failed, or none where memory was refused.
     fn put(&mut self, bytes: &[u8]) -> Result<(), PutFault>
         ensures appended { OnOk result (Appends (written self.old) (written self.new) bytes.now) }
-        ensures cut_short { IsErrOf result PutFault.Failed → AppendsFront (written self.old) (written self.new) bytes.now }
+        ensures cut_short { IsErrOf result PutFault.Failed → AppendsPrefix (written self.old) (written self.new) bytes.now }
         ensures unwritten { IsErrOf result PutFault.Memory → Keeps (written self.old) (written self.new) }
 
         // `Failed` comes only where the count rose. Any other answer leaves it.

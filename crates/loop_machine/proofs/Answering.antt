@@ -2,7 +2,7 @@
 use Rattle.std.proofs.Common.{◌≡◌, inl, inr, ℕ, ◌+◌, ◌≤◌, true, false, List, [], ◌∷◌, ◌++◌, drop, Option, Some, None, refl, ap, ◌∙◌, sym, subst, arith, append-nil}
 use Rattle.std.specs.Io.KnownBytes.{Appends, Keeps}
 use Rattle.std.proofs.KnownBytes.{Appends-nil, Appends-trans}
-use Rattle.io_edge.specs.Known.{AppendsFront}
+use Rattle.io_edge.specs.Known.{AppendsPrefix}
 use Rattle.io_edge.proofs.Known.{kept_front, front_behind, front_more}
 use Rattle.a95_base.specs.Outcome.{Outcome, Finished, Going, Ended, Faulted, IsPrefix}
 use Rattle.loop_tree.specs.declared.tree.Function.{Function}
@@ -46,7 +46,7 @@ module _ (functions : List Function) where
 
   -- so where a prefix of it was appended, one of what the run writes was
   prefix_appended : (from : State) (turns used : ℕ) (written : List ℕ) (to : State) (old new : Option (List ℕ)) → used ≤ turns →
-      Reaches functions (begin from) (configuration used written to) → AppendsFront old new written → WritesPrefix functions from turns old new
+      Reaches functions (begin from) (configuration used written to) → AppendsPrefix old new written → WritesPrefix functions from turns old new
   prefix_appended from turns used written to old new h way a =
       let whole = some_outcome functions (begin from) turns (omega arith) in
       let prefix = reached_prefix from turns used written to h way whole.written whole.outcome whole.runs in
@@ -54,7 +54,7 @@ module _ (functions : List Function) where
         written = whole.written;
         outcome = whole.outcome;
         runs = whole.runs;
-        appended = subst (AppendsFront old new) (sym prefix.is) (front_more old new written prefix.more a);
+        appended = subst (AppendsPrefix old new) (sym prefix.is) (front_more old new written prefix.more a);
       }
 
   -- ---- what one step comes to
@@ -70,7 +70,7 @@ module _ (functions : List Function) where
   pub unwritten : (from : State) (turns : ℕ) (old new : Option (List ℕ)) → Keeps old new → WritesPrefix functions from turns old new
   unwritten from turns old new k = prefix_appended from turns 0 [] from old new (omega arith) (stays functions (begin from)) (kept_front old new [] k)
 
-  pub cut_short : (from to : State) (turns : ℕ) (written : List ℕ) (old new : Option (List ℕ)) → step functions from ≡ Goes false written to → AppendsFront old new written → WritesPrefix functions from turns old new
+  pub cut_short : (from to : State) (turns : ℕ) (written : List ℕ) (old new : Option (List ℕ)) → step functions from ≡ Goes false written to → AppendsPrefix old new written → WritesPrefix functions from turns old new
   cut_short from to turns written old new e a = prefix_appended from turns 0 written to old new (omega arith) (one_way functions from to false written e) a
 
   pub waits_here : (from to : State) (turns : ℕ) (bytes : Option (List ℕ)) → turns ≡ 0 → to ≡ from → begins_turn (step functions from) ≡ true → Waits functions from turns to bytes bytes

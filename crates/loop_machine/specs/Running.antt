@@ -1,7 +1,7 @@
 -- A machine as contracts see it, and what a run of it comes to.
 use Rattle.std.specs.Prelude.{◌≡◌, ℕ, List, [], Option, None, Some, IfSome}
 use Rattle.std.specs.Io.KnownBytes.{Appends}
-use Rattle.io_edge.specs.Known.{AppendsFront}
+use Rattle.io_edge.specs.Known.{AppendsPrefix}
 use Rattle.a95_base.specs.Outcome.{Outcome, Finished, Going, Ended, Faulted}
 use Rattle.loop_tree.specs.declared.tree.Function.{Function}
 use Rattle.loop_tree.specs.State as state
@@ -48,7 +48,7 @@ pub record WritesPrefix (functions : List Function) (from : State) (turns : ℕ)
   pub written : List ℕ
   pub outcome : Outcome state.End
   pub runs : Runs functions (configuration 0 [] from) turns written outcome
-  pub appended : AppendsFront old new written
+  pub appended : AppendsPrefix old new written
 
 -- a run that tells this outcome, or none, and leaves this state
 abbrev pub ComesTo : List Function → State → ℕ → Option (Outcome state.End) → State → Option (List ℕ) → Option (List ℕ) → Type 0

@@ -19,7 +19,7 @@ pub struct Exit {
 
 /// A function made ready to run: its lines, and for each place among them where the braces that are open there close.
 /// Contracts see the function.
-#[derive(Debug, Drop)]
+#[derive(Drop)]
 pub struct Routine {
     function: Function,
     lines: Items<CodeLine>,

@@ -3,7 +3,7 @@ ghost use Rattle.std.specs.Prelude.{◌≡◌, ◌≢◌, ◌≤◌, ◌∷◌, 
 ghost use Rattle.std.specs.Io.KnownBytes.{Appends, Keeps};
 ghost use Rattle.a95_base.specs.Record.{record_text};
 ghost use Rattle.io_edge.specs.Causes.{Rose};
-ghost use Rattle.io_edge.specs.Known.{AppendsFront};
+ghost use Rattle.io_edge.specs.Known.{AppendsPrefix};
 ghost use Rattle.loop_machine.specs.Shown.{shown};
 ghost use Rattle.loop_machine.specs.Running.{RunsTo};
 ghost use Rattle.loop_machine.specs.Steps.{Passed, Advanced};
@@ -31,7 +31,7 @@ fn with_line_feed(alloc: Global, text: &[u8]) -> Result<Vec<u8>, AllocError>
 fn write_record<K: Sink>(core: &mut Core, sink: &mut K) -> Result<(), PutFault>
     ensures emptied { OnOk result (core.new ≡ record core.old { pending = [] }) }
     ensures appended { OnOk result (Appends (K.written sink.old) (K.written sink.new) (record_text core.old.pending ++ 10 ∷ [])) }
-    ensures cut_short { IsErrOf result PutFault.Failed → AppendsFront (K.written sink.old) (K.written sink.new) (record_text core.old.pending ++ 10 ∷ []) }
+    ensures cut_short { IsErrOf result PutFault.Failed → AppendsPrefix (K.written sink.old) (K.written sink.new) (record_text core.old.pending ++ 10 ∷ []) }
     ensures unwritten { IsErrOf result PutFault.Memory → Keeps (K.written sink.old) (K.written sink.new) }
     ensures later { K.faults sink.old ≤ K.faults sink.new }
     ensures counted { IsErrOf result PutFault.Failed → Rose (K.faults sink.old) (K.faults sink.new) }

@@ -10,7 +10,7 @@ use sqlite_items::Items;
 use std::alloc::Global;
 
 /// An open brace. `body` is the place of the first line of a loop's body.
-#[derive(Clone, Copy, Debug)]
+#[derive(Clone, Copy)]
 pub enum Held {
     Choice,
     Upward { k: u32, bound: Atom, body: usize },
@@ -50,7 +50,7 @@ pub struct Core {
 }
 
 /// What came of a line. It has no fields, so that it is passed in a register.
-#[derive(Clone, Copy, Debug)]
+#[derive(Clone, Copy)]
 pub enum Move {
     /// The next line follows.
     Quiet,
