@@ -6,6 +6,7 @@ use Rattle.loop_tree.specs.declared.tree.CodeLine.TheVariants as code
 use Rattle.loop_tree.specs.Lines.{flat, flats}
 use Rattle.loop_tree.specs.Program.{depth, depths, leaves, some_leaves}
 use Rattle.loop_tree.proofs.Trees.{flat-If, flat-IfElse, flat-ForUp, flat-ForDown, flat-Forever, depth-If, depth-IfElse, depth-ForUp, depth-ForDown, depth-Forever, leaves-If, leaves-IfElse, leaves-ForUp, leaves-ForDown, leaves-Forever}
+use Rattle.loop_tree.proofs.Bodies.{flats-append, some_leaves-append, depths-append}
 use Rattle.loop_text.specs.declared.level.LevelKind.{LevelKind}
 use Rattle.loop_text.specs.declared.level.LevelKind.TheVariants as kind
 use mathlib.Core.List.{reverse-cons}
@@ -53,10 +54,6 @@ abbrev pub closings : List Level → List CodeLine
 closings [] = []
 closings (level ∷ levels) = code.Close ∷ closings levels
 
-flats-append : (xs ys : List Stmt) → flats (xs ++ ys) ≡ flats xs ++ flats ys
-flats-append [] ys = refl
-flats-append (x ∷ xs) ys = ap (λ ls. flat x ++ ls) (flats-append xs ys) ∙ sym (append_assoc (flat x) (flats xs) (flats ys))
-
 pub lines_in-more : (levels : List Level) (body more : List Stmt) → lines_in levels (body ++ more) ≡ lines_in levels body ++ flats more
 lines_in-more [] body more = flats-append body more
 lines_in-more (level ∷ levels) body more = ap (λ ls. lines_in levels level.outer ++ (opening level.kind ++ ls)) (flats-append body more) ∙ simp append_assoc
@@ -93,14 +90,6 @@ leaves_kind kind.Forever b = false
 abbrev pub leaks : List Level → Bool → Bool
 leaks [] b = b
 leaks (level ∷ levels) b = leaks levels (some_leaves level.outer || leaves_kind level.kind b)
-
-or_assoc : (a b c : Bool) → ((a || b) || c) ≡ (a || (b || c))
-or_assoc true b c = refl
-or_assoc false b c = refl
-
-pub some_leaves-append : (xs ys : List Stmt) → some_leaves (xs ++ ys) ≡ (some_leaves xs || some_leaves ys)
-some_leaves-append [] ys = refl
-some_leaves-append (x ∷ xs) ys = ap (λ b. leaves x || b) (some_leaves-append xs ys) ∙ sym (or_assoc (leaves x) (some_leaves xs) (some_leaves ys))
 
 leaves-closed : (k : LevelKind) (body : List Stmt) → leaves (closed k body) ≡ leaves_kind k (some_leaves body)
 leaves-closed (kind.If a) body = leaves-If a body
@@ -145,10 +134,6 @@ kind_depth kind.Forever d = d + 1
 abbrev pub deep : List Level → ℕ → ℕ
 deep [] d = d
 deep (level ∷ levels) d = deep levels (max (depths level.outer) (kind_depth level.kind d))
-
-pub depths-append : (xs ys : List Stmt) → depths (xs ++ ys) ≡ max (depths xs) (depths ys)
-depths-append [] ys = omega arith
-depths-append (x ∷ xs) ys = omega (arith, depths-append xs ys)
 
 depth-closed : (k : LevelKind) (body : List Stmt) → depth (closed k body) ≡ kind_depth k (depths body)
 depth-closed (kind.If a) body = depth-If a body

@@ -8,5 +8,5 @@ pub mod WholeText
 pub mod Fits
 pub mod Reached
 pub mod OneLineEach
-pub mod Pieces
+pub mod Split
 pub mod Progress

@@ -10,18 +10,19 @@ use Rattle.loop_tree.specs.declared.tree.Function.{Function}
 use Rattle.loop_tree.specs.Lines.{lines_of}
 use Rattle.loop_tree.specs.Text.{spell, function_head, function_lines, functions_lines, text_lines, with_line_feeds}
 use Rattle.loop_tree.specs.Program.{FitsLine, IsProgram, ReadsText}
+use Rattle.loop_tree.proofs.Bodies.{fit_both}
 use Rattle.loop_text.specs.declared.level.Level.{Level}
 use Rattle.loop_text.specs.declared.reader.Reader.{Reader}
 use Rattle.loop_text.specs.declared.reading.NoText.{NoText}
 use Rattle.loop_text.specs.declared.reading.NoText.TheVariants as no_text
 use Rattle.loop_text.specs.Reader.{Took, may_begin, accept, accept_in, reads, nothing_read, is_text}
-use Rattle.loop_text.specs.Refused.{Pieces, is_one_line, IsLineOf, pieces_of, BeginsText, IsRefusedAt, Refuses, OneProgram, OneLine}
+use Rattle.loop_text.specs.Refused.{Split, is_one_line, IsLineOf, split_of, BeginsText, IsRefusedAt, Refuses, OneProgram, OneLine}
 use Rattle.loop_text.proofs.Completes.{reads-append, spell-append}
 use Rattle.loop_text.proofs.WholeText.{outside, text_read}
 use Rattle.loop_text.proofs.Fits.{AreBytes, bytes_drop}
 use Rattle.loop_text.proofs.Levels.{lines_in, close_all, closings, flats-close_all, some_leaves-close_all, depths-close_all}
 use Rattle.loop_text.proofs.Reached.{SoFar, IsOpen, Reached, at_start, between, inside, one_more, so_far_more, functions_more}
-use Rattle.loop_text.proofs.Pieces.{line_first, only_tail, pieces_of_text, pieces_join, at_feed, bytes_take}
+use Rattle.loop_text.proofs.Split.{line_first, only_tail, split_of_text, split_joins, at_feed, bytes_take}
 
 -- ---- what was read begins a text
 
@@ -35,10 +36,6 @@ least_is = record { some = omega arith; count = omega arith; main = refl; each =
 closings_fit : (ls : List Level) → AllByRecursion FitsLine (closings ls)
 closings_fit [] = tt
 closings_fit (level ∷ ls) = (tt, closings_fit ls)
-
-fit_both : (xs ys : List CodeLine) → AllByRecursion FitsLine xs → AllByRecursion FitsLine ys → AllByRecursion FitsLine (xs ++ ys)
-fit_both [] ys h k = k
-fit_both (x ∷ xs) ys h k = (h.0, fit_both xs ys h.1 k)
 
 -- every open brace closed
 all_closed : (ls : List Level) (body : List Stmt) → IsOpen ls body → IsOpen [] (close_all ls body)
@@ -81,19 +78,16 @@ begins_text r lines (inside fs ps ls body so may is e f) = inside_begins fs ps l
 
 -- so many lines of the bytes were read, and the rest is left
 pub record Progress (bytes rest : List ℕ) (n : ℕ) (r : Reader) : Type 0 where
-  pub lines : (pieces_of rest).lines ≡ drop n ((pieces_of bytes).lines)
-  pub tail : (pieces_of rest).tail ≡ (pieces_of bytes).tail
-  pub count : n ≤ length ((pieces_of bytes).lines)
+  pub lines : (split_of rest).lines ≡ drop n ((split_of bytes).lines)
+  pub tail : (split_of rest).tail ≡ (split_of bytes).tail
+  pub count : n ≤ length ((split_of bytes).lines)
   pub room : n + length rest ≤ length bytes
   pub are : AreBytes rest
-  pub reached : Reached r (take n ((pieces_of bytes).lines))
-  pub read : reads (Some nothing_read) (take n ((pieces_of bytes).lines)) ≡ Some r
+  pub reached : Reached r (take n ((split_of bytes).lines))
+  pub read : reads (Some nothing_read) (take n ((split_of bytes).lines)) ≡ Some r
 
-pub at_first : (bytes : List ℕ) → AreBytes bytes → Progress bytes bytes 0 nothing_read
-at_first bytes are = record { lines = refl; tail = refl; count = omega arith; room = omega arith; are = are; reached = at_start refl refl; read = refl }
-
-first_of : (rest : List ℕ) (end : ℕ) → IsLineOf rest end → pieces_of rest ≡ record { lines = take end rest ∷ (pieces_of (drop (suc end) rest)).lines; tail = (pieces_of (drop (suc end) rest)).tail }
-first_of rest end is = ap pieces_of (at_feed rest end is.within is.feed) ∙ line_first (take end rest) (drop (suc end) rest) is.line
+first_of : (rest : List ℕ) (end : ℕ) → IsLineOf rest end → split_of rest ≡ record { lines = take end rest ∷ (split_of (drop (suc end) rest)).lines; tail = (split_of (drop (suc end) rest)).tail }
+first_of rest end is = ap split_of (at_feed rest end is.within is.feed) ∙ line_first (take end rest) (drop (suc end) rest) is.line
 
 -- where x stands behind n items of a list
 record Stands {A : Type 0} (n : ℕ) (xs : List A) (x : A) (more : List A) : Type 0 where
@@ -113,8 +107,8 @@ whole (suc n) [] = refl
 whole (suc n) (x ∷ xs) = ap (λ ys. x ∷ ys) (whole n xs)
 
 -- the line that comes next
-next_stands : (bytes rest : List ℕ) (n end : ℕ) (r : Reader) → Progress bytes rest n r → IsLineOf rest end → Stands n ((pieces_of bytes).lines) (take end rest) ((pieces_of (drop (suc end) rest)).lines)
-next_stands bytes rest n end r p is = stands n ((pieces_of bytes).lines) (take end rest) ((pieces_of (drop (suc end) rest)).lines) (sym p.lines ∙ ap (λ (q : Pieces). q.lines) (first_of rest end is))
+next_stands : (bytes rest : List ℕ) (n end : ℕ) (r : Reader) → Progress bytes rest n r → IsLineOf rest end → Stands n ((split_of bytes).lines) (take end rest) ((split_of (drop (suc end) rest)).lines)
+next_stands bytes rest n end r p is = stands n ((split_of bytes).lines) (take end rest) ((split_of (drop (suc end) rest)).lines) (sym p.lines ∙ ap (λ (q : Split). q.lines) (first_of rest end is))
 
 reads_next : (lines : List (List ℕ)) (line : List ℕ) (r : Reader) → reads (Some nothing_read) lines ≡ Some r → reads (Some nothing_read) (lines ++ line ∷ []) ≡ accept r line
 reads_next lines line r e = reads-append (Some nothing_read) lines (line ∷ []) ∙ ap (λ o. accept_in o line) e
@@ -122,10 +116,10 @@ reads_next lines line r e = reads-append (Some nothing_read) lines (line ∷ [])
 goes_on : (bytes rest : List ℕ) (n end : ℕ) (r next : Reader) → Progress bytes rest n r → IsLineOf rest end → accept r (take end rest) ≡ Some next → Progress bytes (drop (suc end) rest) (suc n) next
 goes_on bytes rest n end r next p is e =
     let at = next_stands bytes rest n end r p is in
-    let lines = (pieces_of bytes).lines in
+    let lines = (split_of bytes).lines in
     record {
       lines = sym at.dropped;
-      tail = sym (ap (λ (q : Pieces). q.tail) (first_of rest end is)) ∙ p.tail;
+      tail = sym (ap (λ (q : Split). q.tail) (first_of rest end is)) ∙ p.tail;
       count = omega (arith, at.within);
       room = omega (arith, p.room, length-drop (suc end) rest, is.within);
       are = bytes_drop (suc end) rest p.are;
@@ -161,24 +155,24 @@ never_begins lines e b =
     let text : reads (Some nothing_read) (lines ++ b.more) ≡ Some (outside b.program) = ap (reads (Some nothing_read)) (sym b.begins) ∙ text_read b.program b.is_program in
     absurd cc
 
-text_begins : (bytes : List ℕ) (fs : List Function) (n : ℕ) → ReadsText bytes fs → BeginsText (take n ((pieces_of bytes).lines))
-text_begins bytes fs n is = record { program = fs; more = drop n ((pieces_of bytes).lines); is_program = is.program; begins = sym (ap (λ (q : Pieces). q.lines) (pieces_of_text bytes fs is)) ∙ whole n ((pieces_of bytes).lines) }
+text_begins : (bytes : List ℕ) (fs : List Function) (n : ℕ) → ReadsText bytes fs → BeginsText (take n ((split_of bytes).lines))
+text_begins bytes fs n is = record { program = fs; more = drop n ((split_of bytes).lines); is_program = is.program; begins = sym (ap (λ (q : Split). q.lines) (split_of_text bytes fs is)) ∙ whole n ((split_of bytes).lines) }
 
-refused_by : (bytes : List ℕ) (n : ℕ) → n < length ((pieces_of bytes).lines) → BeginsText (take n ((pieces_of bytes).lines)) → reads (Some nothing_read) (take (suc n) ((pieces_of bytes).lines)) ≡ None → IsRefusedAt bytes (suc n)
+refused_by : (bytes : List ℕ) (n : ℕ) → n < length ((split_of bytes).lines) → BeginsText (take n ((split_of bytes).lines)) → reads (Some nothing_read) (take (suc n) ((split_of bytes).lines)) ≡ None → IsRefusedAt bytes (suc n)
 refused_by bytes n h b e =
     let one : suc n - 1 ≡ n = omega arith in
     record {
       counted = omega arith;
       within = omega arith;
-      before = subst (λ k. BeginsText (take k ((pieces_of bytes).lines))) (sym one) b;
-      here = λ k begins. never_begins (take (suc n) ((pieces_of bytes).lines)) e begins;
-      no_text = λ fs is. never_begins (take (suc n) ((pieces_of bytes).lines)) e (text_begins bytes fs (suc n) is);
+      before = subst (λ k. BeginsText (take k ((split_of bytes).lines))) (sym one) b;
+      here = λ k begins. never_begins (take (suc n) ((split_of bytes).lines)) e begins;
+      no_text = λ fs is. never_begins (take (suc n) ((split_of bytes).lines)) e (text_begins bytes fs (suc n) is);
     }
 
 pub refused_line : (bytes rest : List ℕ) (n end : ℕ) (r : Reader) → Progress bytes rest n r → IsLineOf rest end → accept r (take end rest) ≡ None → IsRefusedAt bytes (n + 1)
 refused_line bytes rest n end r p is e =
     let at = next_stands bytes rest n end r p is in
-    let lines = (pieces_of bytes).lines in
+    let lines = (split_of bytes).lines in
     let number : suc n ≡ n + 1 = omega arith in
     subst (IsRefusedAt bytes) number (refused_by bytes n at.within (begins_text r (take n lines) p.reached) (ap (reads (Some nothing_read)) at.taken ∙ (reads_next (take n lines) (take end rest) r p.read ∙ e)))
 
@@ -192,16 +186,16 @@ all_taken n xs e = sym (append-nil (take n xs)) ∙ (ap (λ ys. take n xs ++ ys)
 
 -- every line was read, and what is left is the tail
 record AtEnd (bytes rest : List ℕ) (n : ℕ) (r : Reader) : Type 0 where
-  number : n ≡ length ((pieces_of bytes).lines)
-  taken : take n ((pieces_of bytes).lines) ≡ (pieces_of bytes).lines
-  tail : (pieces_of bytes).tail ≡ rest
-  begins : BeginsText (take n ((pieces_of bytes).lines))
+  number : n ≡ length ((split_of bytes).lines)
+  taken : take n ((split_of bytes).lines) ≡ (split_of bytes).lines
+  tail : (split_of bytes).tail ≡ rest
+  begins : BeginsText (take n ((split_of bytes).lines))
 
 at_end : (bytes rest : List ℕ) (n : ℕ) (r : Reader) → Progress bytes rest n r → is_one_line rest ≡ true → AtEnd bytes rest n r
 at_end bytes rest n r p e =
-    let lines = (pieces_of bytes).lines in
-    let left : drop n lines ≡ [] = sym p.lines ∙ ap (λ (q : Pieces). q.lines) (only_tail rest e) in
-    record { number = omega (arith, p.count, nothing_left n lines left); taken = all_taken n lines left; tail = sym p.tail ∙ ap (λ (q : Pieces). q.tail) (only_tail rest e); begins = begins_text r (take n lines) p.reached }
+    let lines = (split_of bytes).lines in
+    let left : drop n lines ≡ [] = sym p.lines ∙ ap (λ (q : Split). q.lines) (only_tail rest e) in
+    record { number = omega (arith, p.count, nothing_left n lines left); taken = all_taken n lines left; tail = sym p.tail ∙ ap (λ (q : Split). q.tail) (only_tail rest e); begins = begins_text r (take n lines) p.reached }
 
 refused_end : (bytes rest : List ℕ) (n : ℕ) (r : Reader) → AtEnd bytes rest n r → ((fs : List Function) → ReadsText bytes fs → ⊥) → IsRefusedAt bytes (n + 1)
 refused_end bytes rest n r at never =
@@ -209,7 +203,7 @@ refused_end bytes rest n r at never =
     record {
       counted = omega arith;
       within = omega (arith, at.number);
-      before = subst (λ k. BeginsText (take k ((pieces_of bytes).lines))) (sym one) at.begins;
+      before = subst (λ k. BeginsText (take k ((split_of bytes).lines))) (sym one) at.begins;
       here = λ k begins. absurd (omega (arith, at.number));
       no_text = never;
     }
@@ -218,7 +212,7 @@ refused_end bytes rest n r at never =
 pub refused_tail : (bytes rest : List ℕ) (n : ℕ) (r : Reader) → Progress bytes rest n r → is_one_line rest ≡ true → (rest ≡ [] → ⊥) → IsRefusedAt bytes (n + 1)
 refused_tail bytes rest n r p e some =
     let at = at_end bytes rest n r p e in
-    refused_end bytes rest n r at (λ fs is. some (sym at.tail ∙ ap (λ (q : Pieces). q.tail) (pieces_of_text bytes fs is)))
+    refused_end bytes rest n r at (λ fs is. some (sym at.tail ∙ ap (λ (q : Split). q.tail) (split_of_text bytes fs is)))
 
 -- ---- the end of a text
 
@@ -230,7 +224,7 @@ pub refused_short : (bytes rest : List ℕ) (n : ℕ) (r : Reader) → Progress 
 refused_short bytes rest n r p e short =
     let at = at_end bytes rest n r p e in
     refused_end bytes rest n r at (λ fs is.
-    let read : reads (Some nothing_read) (take n ((pieces_of bytes).lines)) ≡ Some (outside fs) = ap (reads (Some nothing_read)) (at.taken ∙ ap (λ (q : Pieces). q.lines) (pieces_of_text bytes fs is)) ∙ text_read fs is.program in
+    let read : reads (Some nothing_read) (take n ((split_of bytes).lines)) ≡ Some (outside fs) = ap (reads (Some nothing_read)) (at.taken ∙ ap (λ (q : Split). q.lines) (split_of_text bytes fs is)) ∙ text_read fs is.program in
     let same : r ≡ outside fs = cc (read, p.read) in
     let text : is_text r ≡ true = ap is_text same ∙ is_text_outside fs is.program.some in
     absurd cc)
@@ -253,26 +247,26 @@ found_by r lines bytes (inside fs ps ls body so may is e f) text same = let none
 pub found : (bytes rest : List ℕ) (n : ℕ) (r : Reader) → Progress bytes rest n r → is_one_line rest ≡ true → rest ≡ [] → is_text r ≡ true → ReadsText bytes r.functions
 found bytes rest n r p e none text =
     let at = at_end bytes rest n r p e in
-    let joined : bytes ≡ with_line_feeds ((pieces_of bytes).lines) = pieces_join bytes ∙ (ap (λ t. with_line_feeds ((pieces_of bytes).lines) ++ t) (at.tail ∙ none) ∙ append-nil (with_line_feeds ((pieces_of bytes).lines))) in
-    found_by r (take n ((pieces_of bytes).lines)) bytes p.reached text (joined ∙ ap with_line_feeds (sym at.taken))
+    let joined : bytes ≡ with_line_feeds ((split_of bytes).lines) = split_joins bytes ∙ (ap (λ t. with_line_feeds ((split_of bytes).lines) ++ t) (at.tail ∙ none) ∙ append-nil (with_line_feeds ((split_of bytes).lines))) in
+    found_by r (take n ((split_of bytes).lines)) bytes p.reached text (joined ∙ ap with_line_feeds (sym at.taken))
 
 -- ---- answers
 
 -- the answer where n lines were read
-told : (bytes : List ℕ) (n : ℕ) (answer : NoText) → IsRefusedAt bytes (n + 1) → answer ≡ no_text.At (record { 0 = min (n + 1) (2 ^ 32 - 1) }) → Refuses bytes answer
-told bytes n answer is e = subst (Refuses bytes) (sym e) (record { number = n + 1; refused = is; told = refl })
+answered : (bytes : List ℕ) (n : ℕ) (answer : NoText) → IsRefusedAt bytes (n + 1) → answer ≡ no_text.At (record { 0 = min (n + 1) (2 ^ 32 - 1) }) → Refuses bytes answer
+answered bytes n answer is e = subst (Refuses bytes) (sym e) (record { number = n + 1; refused = is; given = refl })
 
 pub step_refused : (bytes rest line : List ℕ) (n end : ℕ) (r next : Reader) (ok : Bool) (answer : NoText) → Progress bytes rest n r → IsLineOf rest end → line ≡ take end rest → Took (accept r line) ok next → ok ≡ false →
     answer ≡ no_text.At (record { 0 = min (n + 1) (2 ^ 32 - 1) }) → Refuses bytes answer
 step_refused bytes rest line n end r next ok answer p is same took never e =
-    told bytes n answer (refused_line bytes rest n end r p is (ap (accept r) (sym same) ∙ took_none (accept r line) ok next took never)) e
+    answered bytes n answer (refused_line bytes rest n end r p is (ap (accept r) (sym same) ∙ took_none (accept r line) ok next took never)) e
 
 pub tail_refused : (bytes rest : List ℕ) (n : ℕ) (r : Reader) (b : Bool) (answer : NoText) → Progress bytes rest n r → is_one_line rest ≡ true → b ≡ (length rest == 0) → b ≡ false → answer ≡ no_text.At (record { 0 = min (n + 1) (2 ^ 32 - 1) }) → Refuses bytes answer
 tail_refused bytes rest n r b answer p line e f a =
-    told bytes n answer (refused_tail bytes rest n r p line (λ none. let empty : (length rest == 0) ≡ true = ap (λ bs. length bs == 0) none in absurd cc)) a
+    answered bytes n answer (refused_tail bytes rest n r p line (λ none. let empty : (length rest == 0) ≡ true = ap (λ bs. length bs == 0) none in absurd cc)) a
 
 pub short_refused : (bytes rest : List ℕ) (n : ℕ) (r : Reader) (b : Bool) (answer : NoText) → Progress bytes rest n r → is_one_line rest ≡ true → b ≡ is_text r → b ≡ false → answer ≡ no_text.At (record { 0 = min (n + 1) (2 ^ 32 - 1) }) → Refuses bytes answer
-short_refused bytes rest n r b answer p line e f a = told bytes n answer (refused_short bytes rest n r p line (sym e ∙ f)) a
+short_refused bytes rest n r b answer p line e f a = answered bytes n answer (refused_short bytes rest n r p line (sym e ∙ f)) a
 
 empty_is : (rest : List ℕ) (b : Bool) → b ≡ (length rest == 0) → b ≡ true → rest ≡ []
 empty_is [] b e f = refl
@@ -286,7 +280,7 @@ whole_found bytes rest n r none text functions p line e empty f also same =
 
 pub one_program : OneProgram
 one_program bytes fs gs is also =
-    let lines : text_lines fs ≡ text_lines gs = ap (λ (q : Pieces). q.lines) (sym (pieces_of_text bytes fs is) ∙ pieces_of_text bytes gs also) in
+    let lines : text_lines fs ≡ text_lines gs = ap (λ (q : Split). q.lines) (sym (split_of_text bytes fs is) ∙ split_of_text bytes gs also) in
     let both : Some (outside fs) ≡ Some (outside gs) = sym (text_read fs is.program) ∙ (ap (reads (Some nothing_read)) lines ∙ text_read gs also.program) in
     let same : outside fs ≡ outside gs = cc in
     ap (λ (x : Reader). x.functions) same
@@ -311,7 +305,7 @@ begins_less n m lines h b =
     }
 
 none_less : (bytes : List ℕ) (n m : ℕ) → IsRefusedAt bytes n → IsRefusedAt bytes m → n < m → ⊥
-none_less bytes n m is also h = is.here (omega (arith, also.within)) (begins_less n (m - 1) ((pieces_of bytes).lines) (omega arith) also.before)
+none_less bytes n m is also h = is.here (omega (arith, also.within)) (begins_less n (m - 1) ((split_of bytes).lines) (omega arith) also.before)
 
 same_by : (n m : ℕ) (b c : Bool) → nat_lt n m ≡ b → nat_lt m n ≡ c → (n < m → ⊥) → (m < n → ⊥) → n ≡ m
 same_by n m true c e f h k = absurd (h (grind (arith, nat_tests)))

@@ -16,6 +16,7 @@ use Rattle.loop_tree.specs.Lines.{flats}
 use Rattle.loop_tree.specs.Text.{spell, function_head, function_lines, functions_lines, text_lines}
 use Rattle.loop_tree.specs.Program.{FitsRow, FitsLine, depths, leaves, some_leaves, leaves_row, main_parameters, IsFunction}
 use Rattle.loop_tree.proofs.Trees.{flat-Row, depth-Row, leaves-Row}
+use Rattle.loop_tree.proofs.Bodies.{some_leaves-append, depths-append}
 use Rattle.loop_text.specs.declared.level.Level.{Level}
 use Rattle.loop_text.specs.declared.level.LevelKind.{LevelKind}
 use Rattle.loop_text.specs.declared.level.LevelKind.TheVariants as kind
@@ -25,7 +26,7 @@ use Rattle.loop_text.specs.Reader.{in_loop, closed, letters_on, may_begin, may_s
 use Rattle.loop_text.proofs.Completes.{reading, spell-append}
 use Rattle.loop_text.proofs.WholeText.{outside}
 use Rattle.loop_text.proofs.Fits.{AreBytes, line_fits}
-use Rattle.loop_text.proofs.Levels.{or_false, opening, lines_in, lines_in-more, lines_in-closed, leaves_kind, leaks, some_leaves-append, leaks-closed, leaks-in_loop, kind_depth, deep, depths-append, deep-closed, deep-max}
+use Rattle.loop_text.proofs.Levels.{or_false, opening, lines_in, lines_in-more, lines_in-closed, leaves_kind, leaks, leaks-closed, leaks-in_loop, kind_depth, deep, deep-closed, deep-max}
 
 -- ---- states, with the lines that lead to them
 

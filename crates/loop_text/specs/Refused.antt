@@ -1,4 +1,5 @@
 -- Where a text is refused: what the clauses of `read` say of bytes that are the text of no program.
+-- `IsRefusedAt` is all that a reader must believe beside `ReadsText` of `loop_tree`.
 use Rattle.std.specs.Prelude.{◌≡◌, ℕ, ◌+◌, ◌-◌, ◌<◌, ◌≤◌, ◌^◌, ◌==◌, min, Bool, true, not, get_or, if◌then◌else◌, List, [], ◌∷◌, ◌++◌, length, take}
 use Rattle.std.specs.List.{list_all}
 use Rattle.loop_tree.specs.declared.tree.Function.{Function}
@@ -8,7 +9,7 @@ use Rattle.loop_text.specs.declared.reading.NoText.{NoText}
 use Rattle.loop_text.specs.declared.reading.NoText.TheVariants as no_text
 
 -- bytes cut at their line feeds: the lines that one ends, and what stands behind the last one
-pub record Pieces : Type 0 where
+pub record Split : Type 0 where
   pub lines : List (List ℕ)
   pub tail : List ℕ
 
@@ -23,16 +24,16 @@ pub record IsLineOf (rest : List ℕ) (end : ℕ) : Type 0 where
   pub line : is_one_line (take end rest) ≡ true
 
 -- one more byte at the front
-abbrev pub byte_onto : ℕ → List (List ℕ) → List ℕ → Pieces
+abbrev pub byte_onto : ℕ → List (List ℕ) → List ℕ → Split
 byte_onto c [] tail = record { lines = []; tail = c ∷ tail }
 byte_onto c (line ∷ lines) tail = record { lines = (c ∷ line) ∷ lines; tail = tail }
 
-abbrev pub feed_onto : Pieces → Pieces
+abbrev pub feed_onto : Split → Split
 feed_onto p = record { lines = [] ∷ p.lines; tail = p.tail }
 
-abbrev pub pieces_of : List ℕ → Pieces
-pieces_of [] = record { lines = []; tail = [] }
-pieces_of (c ∷ cs) = if c == 10 then feed_onto (pieces_of cs) else byte_onto c ((pieces_of cs).lines) ((pieces_of cs).tail)
+abbrev pub split_of : List ℕ → Split
+split_of [] = record { lines = []; tail = [] }
+split_of (c ∷ cs) = if c == 10 then feed_onto (split_of cs) else byte_onto c ((split_of cs).lines) ((split_of cs).tail)
 
 -- some text begins with these lines
 pub record BeginsText (lines : List (List ℕ)) : Type 0 where
@@ -46,20 +47,20 @@ pub record BeginsText (lines : List (List ℕ)) : Type 0 where
 -- line that no text begins with.
 pub record IsRefusedAt (bytes : List ℕ) (n : ℕ) : Type 0 where
   pub counted : 0 < n
-  pub within : n ≤ length ((pieces_of bytes).lines) + 1
-  pub before : BeginsText (take (n - 1) ((pieces_of bytes).lines))
-  pub here : n ≤ length ((pieces_of bytes).lines) → BeginsText (take n ((pieces_of bytes).lines)) → ⊥
+  pub within : n ≤ length ((split_of bytes).lines) + 1
+  pub before : BeginsText (take (n - 1) ((split_of bytes).lines))
+  pub here : n ≤ length ((split_of bytes).lines) → BeginsText (take n ((split_of bytes).lines)) → ⊥
   pub no_text : (program : List Function) → ReadsText bytes program → ⊥
 
--- the line that is told: its number, or the greatest of 32 bits
-pub record IsToldAt (bytes : List ℕ) (line : ℕ) : Type 0 where
+-- the line that is answered: its number, or the greatest of 32 bits
+pub record IsRefusedLine (bytes : List ℕ) (line : ℕ) : Type 0 where
   pub number : ℕ
   pub refused : IsRefusedAt bytes number
-  pub told : line ≡ min number (2 ^ 32 - 1)
+  pub given : line ≡ min number (2 ^ 32 - 1)
 
 -- what each answer says of the bytes
 abbrev pub Refuses : List ℕ → NoText → Type 0
-Refuses bytes (no_text.At line) = IsToldAt bytes line.0
+Refuses bytes (no_text.At line) = IsRefusedLine bytes line.0
 Refuses bytes no_text.Memory = Unit {0}
 
 -- a text is that of one program

@@ -1,3 +1,4 @@
+//! The braces that are open where a text was read so far.
 ghost use Rattle.std.specs.Prelude.{◌≡◌};
 ghost use Rattle.loop_text.specs.Reader.{is_loop};
 

@@ -1,13 +1,14 @@
+//! Reads a text line after line into the functions of its program, as `specs/Reader.antt` says.
 ghost use Rattle.std.specs.Prelude.{◌≡◌, [], ◌∷◌, ◌++◌, length, filter_map, IfOk, OnOk};
 ghost use Rattle.std.specs.Str.{bytes_eq};
 ghost use Rattle.loop_tree.specs.Text.{spell, function_head};
 ghost use Rattle.loop_text.specs.Reader.{nothing_read, Took, letters_on, letter_at, start_with, begin, may_begin, may_stand, add_row, open_level, else_in, close_in, closed, is_loop, in_loop, add_line, go_on, accept, is_text};
 
-use crate::front::{number, skip};
+use crate::atoms::{number, skip};
 use crate::guess::guess;
 use crate::level::{Level, LevelKind};
-use crate::printer::put_head;
 use loop_tree::{CodeLine, ControlRow, Function, Letter, Row, Stack, Stmt};
+use loop_writer::put_head;
 use sqlite_items::{Boxed, Items};
 use std::alloc::{AllocError, Global};
 use std::fmt::Write;

@@ -1,19 +1,23 @@
+//! The program of a text, or the line at which bytes are refused.
 ghost use Rattle.std.specs.Prelude.{◌≡◌, ◌+◌, ◌-◌, ◌^◌, ◌<◌, ◌≤◌, min, length, take, true, MatchOption, IfOk, IfErr};
 ghost use Rattle.loop_tree.specs.Program.{ReadsText};
 ghost use Rattle.loop_text.specs.declared.reading.NoText.TheVariants as no_text;
 ghost use Rattle.loop_text.specs.Refused.{is_one_line, IsLineOf, OneLine, OneProgram, Refuses};
 
-use crate::front::skip;
+use crate::atoms::skip;
 use crate::reader::Reader;
 use a95_base::Line;
 use loop_tree::LoopProgram;
 use std::alloc::{AllocError, Global};
+use thiserror::Error;
 
 /// Why bytes give no program.
-#[derive(Clone, Copy, Debug, PartialEq, Eq)]
+#[derive(Clone, Copy, Debug, PartialEq, Eq, Error)]
 pub enum NoText {
     /// They are no text of LoopC: the lines before this one begin a text, and none goes on with it.
+    #[error("no text of LoopC goes on with line {}", .line.0)]
     At { line: Line },
+    #[error("out of memory")]
     Memory,
 }
 
@@ -34,7 +38,7 @@ pub fn read(alloc: Global, bytes: &[u8]) -> Result<LoopProgram, NoText>
     let mut rest = bytes;
     let mut count = 0_usize;
     while let Some(end) = line_end(rest) {
-        if !reader.take(alloc, front(rest, end))? {
+        if !reader.take(alloc, prefix(rest, end))? {
             return Err(refused_behind(count));
         }
         rest = skip(rest, end + 1);
@@ -72,7 +76,7 @@ fn line_end(rest: &[u8]) -> Option<usize>
 }
 
 /// The bytes before a place.
-fn front(bytes: &[u8], end: usize) -> &[u8]
+fn prefix(bytes: &[u8], end: usize) -> &[u8]
     requires { end ≤ length bytes.now }
     ensures { result.now ≡ take end bytes.now }
 {

@@ -5,3 +5,4 @@ pub mod Runs
 pub mod Lessens
 pub mod Exists
 pub mod Trees
+pub mod Bodies

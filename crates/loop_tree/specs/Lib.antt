@@ -4,6 +4,7 @@ pub mod State
 pub mod Values
 pub mod Machine
 pub mod Program
+pub mod Body
 pub mod Run
 pub mod Text
 pub mod RunLaws

@@ -47,9 +47,12 @@ FitsAtom (atom.Number z) = FitsSigned w64 z
 abbrev pub FitsByte : ℕ → Type 0
 FitsByte c = c < 256
 
+abbrev pub AreBytes : List ℕ → Type 0
+AreBytes bytes = AllByRecursion FitsByte bytes
+
 abbrev pub FitsText : TextAtom → Type 0
 FitsText (text.Variable n) = FitsNumber n
-FitsText (text.Literal bytes) = AllByRecursion FitsByte bytes
+FitsText (text.Literal bytes) = AreBytes bytes
 
 abbrev pub FitsReference : Reference → Type 0
 FitsReference (reference.Ints n) = FitsNumber n
@@ -105,8 +108,11 @@ FitsBlock (block.SameTexts n m) = FitsNumber n × FitsNumber m
 FitsBlock (block.Grow r a) = FitsReference r × FitsAtom a
 FitsBlock (block.Free r) = FitsReference r
 
+abbrev pub FitsArguments : List Argument → Type 0
+FitsArguments arguments = AllByRecursion FitsArgument arguments
+
 abbrev pub FitsControl : ControlRow → Type 0
-FitsControl (control.Call n arguments) = FitsNumber n × AllByRecursion FitsArgument arguments
+FitsControl (control.Call n arguments) = FitsNumber n × FitsArguments arguments
 FitsControl (control.At n) = FitsNumber n
 FitsControl other = Unit {0}
 

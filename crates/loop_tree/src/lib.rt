@@ -5,7 +5,9 @@
 #![tactic(auto)]
 
 mod atom;
+mod code;
 mod copies;
+mod fits;
 mod flatten;
 mod laws;
 mod program;
@@ -17,6 +19,7 @@ mod text;
 mod tree;
 
 pub use atom::{Argument, Atom, Letter, Operator, Reference, TextAtom};
+pub use code::Code;
 pub use laws::{
     end_stays, one_outcome, output_grows, some_outcome, statements_pass, turns_add, ways,
 };

@@ -5,11 +5,11 @@ use Rattle.loop_text.proofs.reading.read.Goals as goal
 
 pub returns-then-not-branch-clause-refused : goal.returns-then-not-branch-clause-refused
 returns-then-not-branch-clause-refused c =
-    step_refused _ _ _ _ _ _ _ _ _ c.loop-end.invariant c.in-Some.ensures c.front.ensures c.in_ok-take.ensures c.if-not-branch.true c.refused_behind.ensures
+    step_refused _ _ _ _ _ _ _ _ _ c.loop-end.invariant c.in-Some.ensures c.prefix.ensures c.in_ok-take.ensures c.if-not-branch.true c.refused_behind.ensures
 
 pub loop-end-preserved : goal.loop-end-preserved
 loop-end-preserved c =
-    step_on _ _ _ _ _ _ _ _ _ c.loop-end.invariant c.in-Some.ensures c.front.ensures c.in_ok-take.ensures c.if-not-branch.false c.skip-rest.ensures
+    step_on _ _ _ _ _ _ _ _ _ c.loop-end.invariant c.in-Some.ensures c.prefix.ensures c.in_ok-take.ensures c.if-not-branch.false c.skip-rest.ensures
 
 pub returns-then-not-is_empty-clause-refused : goal.returns-then-not-is_empty-clause-refused
 returns-then-not-is_empty-clause-refused c =
