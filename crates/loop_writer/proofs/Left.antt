@@ -2,7 +2,7 @@
 use Rattle.std.proofs.Common.{◌≡◌, ℕ, List, [], ◌++◌, Option, refl, ap, ◌∙◌, sym, subst, append_assoc, append-nil}
 use Rattle.std.specs.Io.KnownBytes.{Appends, Keeps}
 use Rattle.std.proofs.KnownBytes.{Appends-nil, Appends-trans}
-use Rattle.io_edge.specs.Known.{AppendsFront}
+use Rattle.io_edge.specs.Known.{AppendsPrefix}
 use Rattle.io_edge.proofs.Known.{whole_front, kept_front, front_behind, front_more}
 use Rattle.loop_writer.specs.Printed.{Leaves, BreaksOff}
 
@@ -18,7 +18,7 @@ nothing_written bytes whole = record { prefix = (0, Appends-nil bytes) }
 pub nothing_kept : (old new : Option (List ℕ)) (whole : List ℕ) → Keeps old new → BreaksOff old new whole
 nothing_kept old new whole k = record { prefix = kept_front old new whole k }
 
-pub cut_short : (old new : Option (List ℕ)) (whole : List ℕ) → AppendsFront old new whole → BreaksOff old new whole
+pub cut_short : (old new : Option (List ℕ)) (whole : List ℕ) → AppendsPrefix old new whole → BreaksOff old new whole
 cut_short old new whole f = record { prefix = f }
 
 -- one more part, of what was left
@@ -32,19 +32,19 @@ part_then old mid new held part later after whole f g = record {
 }
 
 -- what breaks off within what was left has written a prefix of the whole
-pub part_breaks : (old mid new : Option (List ℕ)) (held part later whole : List ℕ) → Leaves old mid (held ++ (part ++ later)) whole → BreaksOff mid new (held ++ part) → AppendsFront old new whole
+pub part_breaks : (old mid new : Option (List ℕ)) (held part later whole : List ℕ) → Leaves old mid (held ++ (part ++ later)) whole → BreaksOff mid new (held ++ part) → AppendsPrefix old new whole
 part_breaks old mid new held part later whole f g =
-    subst (AppendsFront old new) f.is
+    subst (AppendsPrefix old new) f.is
     (front_behind old mid new f.put (held ++ (part ++ later)) f.appended
-    (subst (AppendsFront mid new) (append_assoc held part later) (front_more mid new (held ++ part) later g.prefix)))
+    (subst (AppendsPrefix mid new) (append_assoc held part later) (front_more mid new (held ++ part) later g.prefix)))
 
 -- where nothing more is written, what was put so far is a prefix
-pub stops_here : (old new : Option (List ℕ)) (left whole : List ℕ) → Leaves old new left whole → AppendsFront old new whole
-stops_here old new left whole f = subst (AppendsFront old new) f.is (front_more old new f.put left (whole_front old new f.put f.appended))
+pub stops_here : (old new : Option (List ℕ)) (left whole : List ℕ) → Leaves old new left whole → AppendsPrefix old new whole
+stops_here old new left whole f = subst (AppendsPrefix old new) f.is (front_more old new f.put left (whole_front old new f.put f.appended))
 
 -- the last part
 pub last_put : (old mid new : Option (List ℕ)) (last whole : List ℕ) → Leaves old mid last whole → Appends mid new last → Appends old new whole
 last_put old mid new last whole f a = subst (Appends old new) f.is (Appends-trans old mid new f.put last f.appended a)
 
-pub last_breaks : (old mid new : Option (List ℕ)) (last whole : List ℕ) → Leaves old mid last whole → BreaksOff mid new last → AppendsFront old new whole
-last_breaks old mid new last whole f g = subst (AppendsFront old new) f.is (front_behind old mid new f.put last f.appended g.prefix)
+pub last_breaks : (old mid new : Option (List ℕ)) (last whole : List ℕ) → Leaves old mid last whole → BreaksOff mid new last → AppendsPrefix old new whole
+last_breaks old mid new last whole f g = subst (AppendsPrefix old new) f.is (front_behind old mid new f.put last f.appended g.prefix)

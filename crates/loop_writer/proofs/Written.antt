@@ -3,7 +3,7 @@ use Rattle.std.proofs.Common.{◌≡◌, ℕ, List, [], ◌∷◌, ◌++◌, ref
 use Rattle.std.specs.Prelude.{Option, Some, None, Result, Ok, Err, OnOk, OnErr}
 use Rattle.std.specs.Io.KnownBytes.{Appends}
 use Rattle.std.proofs.KnownBytes.{Appends-nil}
-use Rattle.io_edge.specs.Known.{AppendsFront}
+use Rattle.io_edge.specs.Known.{AppendsPrefix}
 use Rattle.loop_tree.specs.Text.{text_of_program}
 use Rattle.loop_writer.specs.declared.pieces.Piece.{Piece}
 use Rattle.loop_writer.specs.declared.pieces.Piece.TheVariants.{Begin}
@@ -35,7 +35,7 @@ module _ (old mid new : Option (List ℕ)) (held whole : List ℕ) (n : ℕ) (le
       subst (λ (k : ℕ). Leaves old new (after ++ pieces_text k next) whole) (sym e)
       (part_then old mid new held (piece_text n piece) (pieces_text (count_behind n piece) next) after whole parted f)
 
-  pub piece_breaks : BreaksOff mid new (held ++ piece_text n piece) → AppendsFront old new whole
+  pub piece_breaks : BreaksOff mid new (held ++ piece_text n piece) → AppendsPrefix old new whole
   piece_breaks f = part_breaks old mid new held (piece_text n piece) (pieces_text (count_behind n piece) next) whole parted f
 
 -- no piece is left
@@ -46,7 +46,7 @@ module _ (old mid new : Option (List ℕ)) (held last whole : List ℕ) (n : ℕ
   pub all_written : Appends mid new last → Appends old new whole
   all_written a = last_put old mid new last whole at_end a
 
-  pub breaks_at_end : BreaksOff mid new last → AppendsFront old new whole
+  pub breaks_at_end : BreaksOff mid new last → AppendsPrefix old new whole
   breaks_at_end f = last_breaks old mid new last whole at_end f
 
 -- ---- clauses on an answer

@@ -1,7 +1,7 @@
 -- The text of a program while it is written. No public clause cites this file: it says how the private functions work.
 use Rattle.std.specs.Prelude.{◌≡◌, ℕ, ◌+◌, ◌≤◌, ◌^◌, List, [], ◌∷◌, ◌++◌, map, length, codes, Option, false}
 use Rattle.std.specs.Io.KnownBytes.{Appends}
-use Rattle.io_edge.specs.Known.{AppendsFront}
+use Rattle.io_edge.specs.Known.{AppendsPrefix}
 use Rattle.loop_tree.specs.declared.atom.Letter.{Letter}
 use Rattle.loop_tree.specs.declared.tree.Stmt.{Stmt}
 use Rattle.loop_tree.specs.declared.tree.CodeLine.TheVariants as line
@@ -59,4 +59,4 @@ pub record Leaves (old new : Option (List ℕ)) (left whole : List ℕ) : Type 0
 
 -- a prefix of the text was appended
 pub record BreaksOff (old new : Option (List ℕ)) (text : List ℕ) : Type 0 where
-  pub prefix : AppendsFront old new text
+  pub prefix : AppendsPrefix old new text

@@ -2,7 +2,7 @@
 ghost use Rattle.std.specs.Prelude.{◌≡◌, ◌∷◌, ◌++◌, ◌<◌, ◌≤◌, ◌^◌, [], length, string_bytes, Option, OnOk, OnErr, IfOk, IfErr, IsErrOf, Some};
 ghost use Rattle.std.specs.Io.KnownBytes.{Appends};
 ghost use Rattle.io_edge.specs.Causes.{Rose};
-ghost use Rattle.io_edge.specs.Known.{AppendsFront};
+ghost use Rattle.io_edge.specs.Known.{AppendsPrefix};
 ghost use Rattle.loop_tree.specs.Program.{IsProgram};
 ghost use Rattle.loop_tree.specs.Text.{text_of_program};
 ghost use Rattle.loop_writer.specs.Pieces.{functions_of, BeginsMain, IsNext, IsOutside};
@@ -31,7 +31,7 @@ pub fn write<P: Producer, K: Sink>(
     requires { BeginsMain (P.left pieces.old) }
     ensures whole { OnOk result (Appends (K.written out.old) (K.written out.new) (text_of_program (functions_of (P.left pieces.old)))) }
     ensures program { OnOk result (IsProgram (functions_of (P.left pieces.old))) }
-    ensures front { OnErr result (AppendsFront (K.written out.old) (K.written out.new) (text_of_program (functions_of (P.left pieces.old)))) }
+    ensures front { OnErr result (AppendsPrefix (K.written out.old) (K.written out.new) (text_of_program (functions_of (P.left pieces.old)))) }
     ensures ok { OnOk result (K.faults out.new ≡ K.faults out.old) }
     ensures counted { IsErrOf result PutFault.Failed → Rose (K.faults out.old) (K.faults out.new) }
     ensures later { K.faults out.old ≤ K.faults out.new }
