@@ -7,7 +7,7 @@ pub const LONGEST_WORD: usize = 31;
 pub const GREATEST_RANK: usize = 7;
 
 /// The elements of an array, and the cells of a block.
-pub const MOST_ELEMENTS: u64 = 1 << 24;
+pub const MOST_ELEMENTS: u32 = 1 << 24;
 
 /// The bytes of a text.
 pub const LONGEST_TEXT: usize = 255;

@@ -6,7 +6,7 @@ use loop_tree::{Atom, Stmt};
 use sqlite_items::Items;
 
 /// What an open brace belongs to.
-#[derive(Debug, Drop)]
+#[derive(Drop)]
 pub enum LevelKind {
     If(Atom),
     /// The part behind ELSE, with the statements before it.
@@ -17,7 +17,7 @@ pub enum LevelKind {
 }
 
 /// An open brace, and the statements before it in the list that it stands in.
-#[derive(Debug, Drop)]
+#[derive(Drop)]
 pub struct Level {
     pub kind: LevelKind,
     pub outer: Items<Stmt>,

@@ -15,7 +15,7 @@ use std::fmt::Write;
 use std::mem;
 
 /// What was read of a text.
-#[derive(Debug, Drop)]
+#[derive(Drop)]
 pub struct Reader {
     /// The first line was read.
     started: bool,

@@ -1,6 +1,6 @@
 //! How rows and lines are written: `Display` gives the spelling of `specs/Text.antt`.
 
-ghost use Rattle.std.specs.Prelude.{Some};
+ghost use Rattle.std.specs.Prelude.{Some, decimal};
 ghost use Rattle.loop_tree.specs.Text.{atom_text, text_atom_text, reference_text, argument_text, listed, listed_by, call_text, set_text_of, int_value_text, text_value_text, block_row_text, control_row_text, record_row_text, row_text, spell};
 
 use crate::atom::{Argument, Atom, Reference, TextAtom};
@@ -107,6 +107,49 @@ impl fmt::Display for OfReference {
     }
 }
 
+#[derive(Clone, Copy)]
+struct OfNumber(&'static str, u32);
+
+impl fmt::Display for OfNumber {
+    ghost output = { λ c. Some (call_text c.0.now (decimal c.1)) };
+
+    fn fmt<W: fmt::Write>(&self, f: &mut fmt::Formatter<W>) -> fmt::Result {
+        let OfNumber(name, n) = self;
+        write!(f, "{name}({n})")
+    }
+}
+
+/// The call of a function: its number and what is passed.
+#[derive(Clone, Copy)]
+struct OfFunction<'a>(u32, Arguments<'a>);
+
+impl fmt::Display for OfFunction<'_> {
+    ghost use Rattle.std.specs.Prelude.{codes, ◌++◌};
+
+    ghost output = { λ c. Some (call_text (codes "f" ++ decimal c.0) (listed_by argument_text c.1.0.now)) };
+
+    fn fmt<W: fmt::Write>(&self, f: &mut fmt::Formatter<W>) -> fmt::Result {
+        let OfFunction(n, arguments) = self;
+        write!(f, "f{n}({arguments})")
+    }
+}
+
+/// A cell of a block: the letter and the number of the reference, and the index.
+#[derive(Clone, Copy)]
+struct Cell(&'static str, u32, Atom);
+
+impl fmt::Display for Cell {
+    ghost use Rattle.std.specs.Prelude.{codes, [], ◌∷◌};
+    ghost use Rattle.std.specs.List.{concat};
+
+    ghost output = { λ c. Some (concat (c.0.now ∷ decimal c.1 ∷ codes "[" ∷ atom_text c.2 ∷ codes "]" ∷ [])) };
+
+    fn fmt<W: fmt::Write>(&self, f: &mut fmt::Formatter<W>) -> fmt::Result {
+        let Cell(letter, n, a) = self;
+        write!(f, "{letter}{n}[{a}]")
+    }
+}
+
 /// A reference that is set to a block: its letter and number, and the built-in that makes the block.
 #[derive(Clone, Copy)]
 struct Makes(&'static str, u32, OfAtom);
@@ -127,7 +170,7 @@ impl fmt::Display for IntValue {
         match self {
             IntValue::Atom(a) => a.fmt(f),
             IntValue::Operation(a, operator, b) => write!(f, "{a} {operator} {b}"),
-            IntValue::Cell(n, a) => write!(f, "b{n}[{a}]"),
+            IntValue::Cell(n, a) => Cell("b", *n, *a).fmt(f),
             IntValue::Wrap(a) => OfAtom("f_wrap", *a).fmt(f),
             IntValue::Power(a, b) => OfAtoms("f_pow", *a, *b).fmt(f),
             IntValue::Xor(a, b) => OfAtoms("f_xor", *a, *b).fmt(f),
@@ -151,7 +194,7 @@ impl fmt::Display for TextValue {
     fn fmt<W: fmt::Write>(&self, f: &mut fmt::Formatter<W>) -> fmt::Result {
         match self {
             TextValue::Atom(t) => t.fmt(f),
-            TextValue::Cell(n, a) => write!(f, "c{n}[{a}]"),
+            TextValue::Cell(n, a) => Cell("c", *n, *a).fmt(f),
             TextValue::Join(t, u) => OfTexts("f_cat", t, u).fmt(f),
             TextValue::Part(t, a, b) => write!(f, "f_sub({t}, {a}, {b})"),
             TextValue::Over(t, a, u) => write!(f, "f_over({t}, {a}, {u})"),
@@ -196,14 +239,11 @@ impl fmt::Display for ControlRow {
             ControlRow::Return => f.write_str("return"),
             ControlRow::Call(n, arguments) => {
                 let arguments = Arguments(arguments.as_slice());
-                write!(f, "f{n}({arguments})")
+                OfFunction(*n, arguments).fmt(f)
             }
             ControlRow::Stop => f.write_str("f_stop()"),
-            ControlRow::Fault(kind) => {
-                let number = kind.number();
-                write!(f, "f_fault({number})")
-            }
-            ControlRow::At(n) => write!(f, "f_at({n})"),
+            ControlRow::Fault(kind) => OfNumber("f_fault", u32::from(kind.number())).fmt(f),
+            ControlRow::At(n) => OfNumber("f_at", *n).fmt(f),
         }
     }
 }

@@ -3,6 +3,7 @@ use Rattle.std.specs.Prelude.{ℕ, suc, Bool, true, List, [], ◌∷◌, ◌++�
 use Rattle.std.specs.List.{flat_map, list_any, list_all, filter_map}
 use Rattle.std.specs.Option.{option_map}
 use Rattle.std.specs.Str.{bytes_eq}
+use Rattle.a95_base.specs.Limits.{most_elements}
 use Rattle.rank_one.specs.declared.form.Entity.{Entity}
 use Rattle.rank_one.specs.declared.form.Declaration.{Declaration}
 use Rattle.rank_one.specs.declared.form.NamedAction.{NamedAction}
@@ -86,7 +87,7 @@ names_of s = s.opening.it ∷ (map (λ x. x.name) (symbols_of s) ++ flat_map (λ
 pub record Keeps (source : Source) : Type 0 where
   pub names : IsTrue (list_all is_name (names_of source))
   pub declared_once : IsTrue (is_distinct (map (λ x. x.name) (symbols_of source)))
-  pub extents : IsTrue (list_all (λ x. nat_le x.array.extent (2 ^ 24)) (symbols_of source))
+  pub extents : IsTrue (list_all (λ x. nat_le x.array.extent most_elements) (symbols_of source))
   pub conforming : IsTrue (list_all (λ a. is_conforming (symbols_of source) a.it) source.actions)
 
 -- each name of a statement is declared

@@ -1,6 +1,7 @@
 -- The reader, one statement after another. The laws of proofs/ join this to what a text reads as.
 use Rattle.std.specs.Prelude.{ℕ, Bool, true, false, List, [], ◌∷◌, ◌++◌, ◌+◌, ◌^◌, ◌==◌, ◌&&◌, not, nat_le, length, if◌then◌else◌, Option, Some, None, is_some}
 use Rattle.std.specs.List.{slice_split}
+use Rattle.a95_base.specs.Limits.{most_elements}
 use Rattle.rank_one.specs.declared.token.Token.{Token}
 use Rattle.rank_one.specs.declared.form.NamedAction.{NamedAction}
 use Rattle.rank_one.specs.declared.form.Entity.{Entity}
@@ -22,7 +23,7 @@ start = record { section = section.Opening; symbols = []; statements = []; undec
 -- one more array, with a new name and of an extent that may be
 abbrev pub declared_symbol : List Symbol → Symbol → Option (List Symbol)
 declared_symbol symbols s =
-    if nat_le s.array.extent (2 ^ 24) && not (is_some (place_of symbols s.name)) then Some (symbols ++ s ∷ []) else None
+    if nat_le s.array.extent most_elements && not (is_some (place_of symbols s.name)) then Some (symbols ++ s ∷ []) else None
 
 abbrev pub symbol_on : ℕ → Entity → Symbol
 symbol_on line e = record { name = e.name; array = record { line = line; extent = e.extent } }

@@ -2,6 +2,7 @@
 use Rattle.std.specs.Prelude.{◌≡◌, ℕ, List, [], ◌∷◌, map, length, nat_le, IsTrue, ◌^◌, ◌≤◌, ◌<◌, unwrap_or, ◌⊎◌, Contains}
 use Rattle.std.specs.List.{list_all}
 use Rattle.std.specs.Str.{str_to_ascii_lowercase}
+use Rattle.a95_base.specs.Rules.{not_yet, undeclared}
 use Rattle.rank_one.specs.declared.unit.Unit.{Unit}
 use Rattle.rank_one.specs.declared.unit.Statement.{Statement}
 use Rattle.rank_one.specs.declared.unit.Action.{Action}
@@ -72,17 +73,17 @@ pub record Reads (bytes : List ℕ) (unit : Unit) : Type 0 where
   pub declared : undeclared_lines source ≡ []
   pub unit_is : unit ≡ unit_of source
 
--- rule 47 of phase 3, always on line 1: the bytes are no source
+-- phase 3, always on line 1: the bytes are no source
 pub record IsNoSource (bytes : List ℕ) (phase line rule : ℕ) : Type 0 where
   pub phase_is : phase ≡ 3
   pub line_is : line ≡ 1
-  pub rule_is : rule ≡ 47
+  pub rule_is : rule ≡ not_yet
   pub none : (source : Source) → IsSource bytes source → ⊥
 
--- rule 19 of phase 4: a statement on this line has a name that isn't declared
+-- phase 4: a statement on this line has a name that isn't declared
 pub record HasUndeclared (bytes : List ℕ) (phase line rule : ℕ) : Type 0 where
   pub phase_is : phase ≡ 4
-  pub rule_is : rule ≡ 19
+  pub rule_is : rule ≡ undeclared
   pub source : Source
   pub is_source : IsSource bytes source
   pub at : Contains (undeclared_lines source) line

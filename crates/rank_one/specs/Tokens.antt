@@ -3,6 +3,7 @@ use Rattle.std.specs.Prelude.{ℕ, zero, suc, Bool, false, List, [], ◌∷◌, 
 use Rattle.std.specs.Char.{is_ascii_alphanumeric, is_ascii_digit, is_ascii_alphabetic}
 use Rattle.std.specs.List.{list_all, prefix_len, slice_split}
 use Rattle.std.specs.Str.Parse.{digits_value}
+use Rattle.a95_base.specs.Limits.{longest_word}
 use Rattle.rank_one.specs.declared.token.Token.{Token}
 use Rattle.rank_one.specs.declared.token.Token.TheVariants as token
 
@@ -25,7 +26,7 @@ number_token n = if nat_le n 2147483647 then token.Number n else token.Stray
 abbrev pub run_token : List ℕ → Token
 run_token run =
     if list_all is_ascii_digit run then number_token (digits_value 10 run)
-    else (if begins_with_letter run && nat_le (length run) 31 then token.Word run
+    else (if begins_with_letter run && nat_le (length run) longest_word then token.Word run
     else token.Stray)
 
 -- what one other byte is: ( ) , = + - *

@@ -1,6 +1,7 @@
 -- What every unit keeps that a text reads as, and its size.
 use Rattle.std.specs.Prelude.{ℕ, zero, suc, Bool, false, List, [], ◌∷◌, ◌++◌, length, nat_le, nat_lt, ◌==◌, ◌&&◌, IsTrue, ◌^◌, ◌+◌, ◌<◌}
 use Rattle.std.specs.List.{list_all, sum_by, flat_map}
+use Rattle.a95_base.specs.Limits.{most_elements}
 use Rattle.rank_one.specs.declared.unit.Unit.{Unit}
 use Rattle.rank_one.specs.declared.unit.Array.{Array}
 use Rattle.rank_one.specs.declared.unit.Action.{Action}
@@ -44,7 +45,7 @@ pub record IsTyped (unit : Unit) : Type 0 where
   pub count : length unit.arrays < 2 ^ 32
   pub array_lines : IsTrue (list_all (λ a. nat_lt a.line (2 ^ 32)) unit.arrays)
   pub statement_lines : IsTrue (list_all (λ s. nat_lt s.line (2 ^ 32)) unit.statements)
-  pub extents : IsTrue (list_all (λ a. nat_le a.extent (2 ^ 24)) unit.arrays)
+  pub extents : IsTrue (list_all (λ a. nat_le a.extent most_elements) unit.arrays)
   pub statements : IsTrue (list_all (λ s. is_typed_action unit.arrays s.action) unit.statements)
 
 abbrev pub size_of_term : Term → ℕ

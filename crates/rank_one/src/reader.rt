@@ -12,14 +12,12 @@ use crate::token::Word;
 use crate::tokens::Tokens;
 use crate::unit::{Array, Statement};
 use crate::{parser, resolve};
+use a95_base::MOST_ELEMENTS;
 use sqlite_items::Items;
 use std::alloc::Global;
 
 /// The characters of a line at most.
 const LONGEST_LINE: usize = 132;
-
-/// The elements of an array at most.
-const LARGEST_EXTENT: u32 = 1 << 24;
 
 /// Which statements may come next.
 #[derive(Clone, Copy, Debug, PartialEq, Eq)]
@@ -195,7 +193,7 @@ fn declare_entity<'a>(
     ensures { Gives (λ _. symbols.new) result (declared_symbol symbols.old (symbol_on line entity.now)) }
 {
     let name = entity.name.as_slice();
-    if entity.extent > LARGEST_EXTENT || symbols.place(name).is_some() {
+    if entity.extent > MOST_ELEMENTS || symbols.place(name).is_some() {
         return Err(Failure::NoSource);
     }
     symbols.push(Symbol {

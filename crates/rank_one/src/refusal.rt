@@ -1,3 +1,4 @@
+//! Why a source isn't read. The two refusals stand in `specs/Refused.antt`.
 ghost use Rattle.std.specs.Prelude.{◌≡◌};
 ghost use Rattle.rank_one.specs.Refused.{no_source, undeclared_on};
 
@@ -22,7 +23,7 @@ impl Refusal {
         Refusal::Refused {
             phase: 3,
             line: Line(1),
-            rule: Rule(47),
+            rule: Rule::NOT_YET,
         }
     }
 
@@ -33,7 +34,7 @@ impl Refusal {
         Refusal::Refused {
             phase: 4,
             line: Line(line),
-            rule: Rule(19),
+            rule: Rule::UNDECLARED,
         }
     }
 }

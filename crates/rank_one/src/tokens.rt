@@ -6,10 +6,8 @@ ghost use Rattle.rank_one.specs.Tokens.{is_blank, is_word_part, run_token, numbe
 
 use crate::parts::behind;
 use crate::token::{Token, Word};
+use a95_base::LONGEST_WORD;
 use std::marker::Model;
-
-/// The characters of a name at most.
-const LONGEST_NAME: usize = 31;
 
 /// The largest number.
 const LARGEST_NUMBER: u64 = 2_147_483_647;
@@ -110,7 +108,7 @@ fn token_of_run(run: &[u8]) -> Token<'_>
     if all_digits(run) {
         return token_of_digits(run);
     }
-    if run[0].is_ascii_alphabetic() && run.len() <= LONGEST_NAME {
+    if run[0].is_ascii_alphabetic() && run.len() <= LONGEST_WORD {
         return Token::Word(Word::new(run));
     }
     Token::Stray
