@@ -15,9 +15,11 @@ use Rattle.loop_tree.proofs.Outcomes.{one_outcome}
 use Rattle.loop_tree.proofs.Exists.{some_outcome}
 use Rattle.loop_machine.specs.declared.end.End.{End}
 use Rattle.loop_machine.specs.declared.end.End.TheVariants as end
-use Rattle.loop_machine.specs.Shown.{lines_in}
-use Rattle.loop_machine.specs.Moves.{EndsSo}
-use Rattle.loop_machine.specs.Running.{outcome_of, Writes, Waits, WritesPrefix, ComesTo, RunsTo, Answers}
+use Rattle.loop_rows.specs.Shown.{lines_in}
+use Rattle.loop_heap.specs.declared.halt.Halt.{Halt}
+use Rattle.loop_heap.specs.declared.halt.Halt.TheVariants as halt
+use Rattle.loop_rows.specs.Rows.{HaltsSo}
+use Rattle.loop_machine.specs.Running.{outcome_of, halted, Writes, Waits, WritesPrefix, ComesTo, RunsTo, Answers}
 use Rattle.loop_machine.specs.Steps.{Advances}
 use Rattle.loop_machine.proofs.Ways.{one_way, then_way}
 
@@ -59,10 +61,10 @@ module _ (functions : List Function) where
 
   -- ---- what one step comes to
 
-  ends_here : (from : State) (turns : ℕ) (how : state.End) (bytes : Option (List ℕ)) → step functions from ≡ Ends how → Writes functions from turns (Finished how) bytes bytes
+  pub ends_here : (from : State) (turns : ℕ) (how : state.End) (bytes : Option (List ℕ)) → step functions from ≡ Ends how → Writes functions from turns (Finished how) bytes bytes
   ends_here from turns how bytes e = record { written = []; runs = record { last = begin from; leads = stays functions (begin from); within = omega arith; output = refl; ends = e }; appended = Appends-nil bytes }
 
-  pub kept_same : (bytes : Option (List ℕ)) → Keeps bytes bytes
+  kept_same : (bytes : Option (List ℕ)) → Keeps bytes bytes
   kept_same None = tt
   kept_same (Some bytes) = refl
 
@@ -77,13 +79,9 @@ module _ (functions : List Function) where
   waits_here from to turns bytes none same e =
       record { written = []; runs = record { last = begin from; leads = stays functions (begin from); spent = sym none; output = refl; waits = e }; there = sym same; appended = Appends-nil bytes }
 
-  pub ends_so : (from to : State) (turns : ℕ) (how : End) (bytes : Option (List ℕ)) → EndsSo (step functions from) how → RunsTo functions from turns how to bytes bytes
-  ends_so from to turns end.Ended bytes e = ends_here from turns (Comes Ended) bytes e
-  ends_so from to turns (end.Fault kind line) bytes e = ends_here from turns (Comes (Faulted kind line.0)) bytes e
-  ends_so from to turns (end.Stuck why) bytes e = ends_here from turns (state.Stuck why) bytes e
-  ends_so from to turns end.TurnLimit bytes e = absurd e
-  ends_so from to turns end.WriteFault bytes e = absurd e
-  ends_so from to turns end.Memory bytes e = unwritten from turns bytes bytes (kept_same bytes)
+  pub halts_here : (from to : State) (turns : ℕ) (why : Halt) (bytes : Option (List ℕ)) → HaltsSo (step functions from) why → RunsTo functions from turns (halted why) to bytes bytes
+  halts_here from to turns (halt.Stuck why) bytes e = ends_here from turns (state.Stuck why) bytes e
+  halts_here from to turns halt.Memory bytes e = unwritten from turns bytes bytes (kept_same bytes)
 
   -- ---- steps before a run
 

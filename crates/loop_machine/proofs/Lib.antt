@@ -1,7 +1,5 @@
-pub mod Exits
-pub mod Variables
-pub mod Callees
-pub mod Ways
-pub mod Plans
-pub mod Turns
-pub mod Answering
+mod Answering
+mod Plans
+mod Turns
+mod Variables
+mod Ways

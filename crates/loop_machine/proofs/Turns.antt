@@ -14,8 +14,8 @@ use Rattle.loop_tree.specs.declared.tree.Function.{Function}
 use Rattle.loop_tree.specs.State.{Brace, Upward, State, Next, Goes, Ends, with_at, with_rest, with_blocks, set_int, set_index}
 use Rattle.loop_tree.specs.Values.{number_at, block_at, atom_in, atom_of, int_value}
 use Rattle.loop_tree.specs.Machine.{rest_of, again, up_again, close_line, given, changed, store_int, change_line, int_line, block_line, at_line, control_line, row_line, do_line, step_at, step}
-use Rattle.loop_machine.specs.declared.state.Held.TheVariants as held
-use Rattle.loop_machine.specs.declared.state.Core.{Core}
+use Rattle.loop_rows.specs.declared.state.Held.TheVariants as held
+use Rattle.loop_rows.specs.declared.state.Core.{Core}
 use Rattle.loop_machine.specs.declared.sweep.CellRow.TheVariants as cell
 use Rattle.loop_machine.specs.declared.sweep.Frequent.TheVariants as frequent
 use Rattle.loop_machine.specs.declared.sweep.Same.TheVariants as same
@@ -23,10 +23,10 @@ use Rattle.loop_machine.specs.declared.sweep.Value.TheVariants as value
 use Rattle.loop_machine.specs.declared.sweep.Plain.TheVariants as plain
 use Rattle.loop_machine.specs.declared.sweep.Planned.{Planned}
 use Rattle.loop_machine.specs.declared.sweep.Planned.TheVariants as planned
-use Rattle.loop_values.specs.Heap.{Heap}
-use Rattle.loop_machine.specs.Shown.{brace, lines_in, shown}
+use Rattle.loop_heap.specs.Heap.{Heap}
+use Rattle.loop_rows.specs.Shown.{brace, lines_in, shown}
 use Rattle.loop_machine.specs.Plans.{atom_of_index, atom_of_operand, row_of, placed, assembled}
-use Rattle.loop_machine.proofs.Exits.{drop_some}
+use Rattle.loop_rows.proofs.Exits.{drop_some}
 use Rattle.loop_machine.specs.Steps.{ReachesSilently}
 use Rattle.loop_machine.proofs.Ways.{quiet_on}
 

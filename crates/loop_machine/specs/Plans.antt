@@ -14,8 +14,8 @@ use Rattle.loop_tree.specs.declared.row.Row.TheVariants as row
 use Rattle.loop_tree.specs.declared.tree.CodeLine.{CodeLine}
 use Rattle.loop_tree.specs.declared.tree.CodeLine.TheVariants as code
 use Rattle.loop_tree.specs.Values.{block_at, atom_in, operation}
-use Rattle.loop_values.specs.Heap.{Heap}
-use Rattle.loop_machine.specs.declared.state.Core.{Core}
+use Rattle.loop_heap.specs.Heap.{Heap}
+use Rattle.loop_rows.specs.declared.state.Core.{Core}
 use Rattle.loop_machine.specs.declared.sweep.Same.{Same}
 use Rattle.loop_machine.specs.declared.sweep.Same.TheVariants as same
 use Rattle.loop_machine.specs.declared.sweep.Value.{Value}

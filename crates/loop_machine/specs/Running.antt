@@ -7,6 +7,8 @@ use Rattle.loop_tree.specs.declared.tree.Function.{Function}
 use Rattle.loop_tree.specs.State as state
 use Rattle.loop_tree.specs.State.{State, Comes}
 use Rattle.loop_tree.specs.Run.{configuration, GoesOnAt, Runs}
+use Rattle.loop_heap.specs.declared.halt.Halt.{Halt}
+use Rattle.loop_heap.specs.declared.halt.Halt.TheVariants as halt
 use Rattle.loop_machine.specs.declared.end.End.{End}
 use Rattle.loop_machine.specs.declared.end.End.TheVariants as end
 
@@ -29,6 +31,11 @@ outcome_of end.Memory = None
 abbrev pub left_by : End → Option End
 left_by end.TurnLimit = None
 left_by other = Some other
+
+-- what a run came to that was halted
+abbrev pub halted : Halt → End
+halted (halt.Stuck why) = end.Stuck why
+halted halt.Memory = end.Memory
 
 -- from a state on, with so many turns, the program has this outcome, and all that it writes was appended
 pub record Writes (functions : List Function) (from : State) (turns : ℕ) (outcome : Outcome state.End) (old new : Option (List ℕ)) : Type 0 where

@@ -1,8 +1,9 @@
 //! What a run came to. `specs/Running.antt` says what each answer tells of the program.
 ghost use Rattle.std.specs.Prelude.{◌≡◌};
-ghost use Rattle.loop_machine.specs.Running.{left_by};
+ghost use Rattle.loop_machine.specs.Running.{left_by, halted};
 
 use a95_base::{FaultKind, Line};
+use loop_heap::Halt;
 use loop_tree::StuckState;
 
 /// What a run came to.
@@ -20,6 +21,16 @@ pub enum End {
     WriteFault,
     /// An allocation was refused.
     Memory,
+}
+
+/// What a run came to that was halted.
+pub fn halted(halt: Halt) -> End
+    ensures { result ≡ halted halt }
+{
+    match halt {
+        Halt::Stuck(why) => End::Stuck { why },
+        Halt::Memory => End::Memory,
+    }
 }
 
 /// What a further run answers, where it doesn't go on.

@@ -4,83 +4,15 @@ ghost use Rattle.std.specs.Prelude.{◌≡◌, ◌∷◌, ◌+◌, ◌<◌, ◌^
 ghost use Rattle.loop_tree.specs.State.{set_index, with_at};
 ghost use Rattle.loop_tree.specs.Values.{number_at, atom_in, atom_of};
 ghost use Rattle.loop_tree.specs.Machine.{leave, if_line, skip_choice, else_line, begin_loop, again, at_line, for_up_line, for_down_line, forever_line, close_line, break_line, continue_line, exits, exit_of, behind, rest_of, first_exit, loop_end};
-ghost use Rattle.loop_machine.specs.Shown.{lines_in, brace, shown, is_else, begins_choice};
+ghost use Rattle.loop_rows.specs.Shown.{lines_in, brace, shown, is_else, begins_choice};
 ghost use Rattle.loop_machine.specs.Moves.{Did};
 
-use crate::end::End;
-use crate::routine::Routine;
-use crate::state::{Core, Held, Move, ends};
-use crate::values::atom;
-use loop_tree::{Atom, CodeLine, Stack};
+use crate::moves::{Move, halts};
+use loop_heap::Halt;
+use loop_rows::{Core, Held, Routine, begins_other, exit, next, outer, past};
+use loop_tree::{Atom, Stack};
 use loop_values::{Numbers, difference, sum};
-use sqlite_items::at;
 use std::alloc::AllocError;
-
-/// The lines of a function.
-#[tactic(auto, using(crate::proofs::Exits::no_lines))]
-pub fn lines_at(routines: &[Routine], routine: usize) -> &[CodeLine]
-    ensures { result.now ≡ lines_in routines.now routine }
-{
-    match routines.get(routine) {
-        Some(found) => found.lines(),
-        None => &[],
-    }
-}
-
-/// The line at a place of a function, or None behind the last one.
-#[tactic(auto, using(crate::proofs::Exits::no_lines))]
-pub fn line_at(routines: &[Routine], routine: usize, place: usize) -> Option<&CodeLine>
-    ensures line { MatchOption result
-        (drop place (lines_in routines.now routine) ≡ [])
-        (λ line. drop place (lines_in routines.now routine) ≡ line.now ∷ drop (place + 1) (lines_in routines.now routine)) }
-    ensures within { OnSome result (place + 1 < 2 ^ 64) }
-{
-    match routines.get(routine) {
-        Some(found) => match found.line(place) {
-            Some(line) => Some(line),
-            None => None,
-        },
-        None => None,
-    }
-}
-
-/// The place of the line that closes the innermost brace that is open at a place.
-fn exit(routines: &[Routine], routine: usize, place: usize) -> usize
-    ensures { drop result (lines_in routines.now routine) ≡ exit_of (drop place (lines_in routines.now routine)) }
-{
-    match at(routines, routine) {
-        Some(found) => found.exit(place),
-        None => place,
-    }
-}
-
-/// The same of the brace around that one.
-fn outer(routines: &[Routine], routine: usize, place: usize) -> usize
-    ensures { drop result (lines_in routines.now routine) ≡ first_exit (rest_of (exits (drop place (lines_in routines.now routine)))) }
-{
-    match at(routines, routine) {
-        Some(found) => found.outer(place),
-        None => place,
-    }
-}
-
-/// The place behind a line.
-#[tactic(auto, using(crate::proofs::Exits::no_next))]
-fn next(routines: &[Routine], routine: usize, place: usize) -> usize
-    ensures { drop result (lines_in routines.now routine) ≡ rest_of (drop place (lines_in routines.now routine)) }
-{
-    match routines.get(routine) {
-        Some(found) => found.next(place),
-        None => place,
-    }
-}
-
-/// The place behind the line that closes the innermost brace that is open at a place.
-fn past(routines: &[Routine], routine: usize, place: usize) -> usize
-    ensures { drop result (lines_in routines.now routine) ≡ behind (drop place (lines_in routines.now routine)) }
-{
-    next(routines, routine, exit(routines, routine, place))
-}
 
 /// A call ends.
 #[inline(never)]
@@ -91,7 +23,7 @@ pub fn leave(routines: &[Routine], core: &mut Core, may: bool) -> Move
     let _ = routines;
     let _ = may;
     match core.callers.pop() {
-        None => ends(core, End::Ended),
+        None => Move::Ended,
         Some(caller) => {
             core.blocks.free_from(core.active.mark);
             core.active = caller;
@@ -109,17 +41,17 @@ pub fn choose(routines: &[Routine], core: &mut Core, test: i64, may: bool) -> Mo
     if test != 0 {
         return match core.active.held.push(Held::Choice) {
             Ok(()) => Move::Quiet,
-            Err(_) => ends(core, End::Memory),
+            Err(_) => halts(core, Halt::Memory),
         };
     }
     match skip(routines, core) {
         Ok(()) => Move::Quiet,
-        Err(_) => ends(core, End::Memory),
+        Err(_) => halts(core, Halt::Memory),
     }
 }
 
 #[inline(never)]
-#[tactic(auto, using(crate::proofs::Exits::skip_is))]
+#[tactic(auto, using(loop_rows::proofs::Exits::skip_is))]
 /// A test that fails leads to the other branch, or behind the closing brace.
 fn skip(routines: &[Routine], core: &mut Core) -> Result<(), AllocError>
     ensures { OnOk result (shown routines.now core.new ≡ skip_choice (shown routines.now core.old) (exit_of (drop core.old.active.place (lines_in routines.now core.old.active.routine)))) }
@@ -130,16 +62,6 @@ fn skip(routines: &[Routine], core: &mut Core) -> Result<(), AllocError>
     }
     core.active.place = next(routines, core.active.routine, place);
     Ok(())
-}
-
-/// The line at a place begins the other branch of a choice.
-fn begins_other(routines: &[Routine], routine: usize, place: usize) -> bool
-    ensures { result ≡ is_else (drop place (lines_in routines.now routine)) }
-{
-    match line_at(routines, routine, place) {
-        Some(line) => matches!(line, CodeLine::Else),
-        None => false,
-    }
 }
 
 /// `} else {`
@@ -167,7 +89,7 @@ pub fn begin_forever(routines: &[Routine], core: &mut Core, may: bool) -> Move
     };
     match core.active.held.push(held) {
         Ok(()) => Move::Turn,
-        Err(_) => ends(core, End::Memory),
+        Err(_) => halts(core, Halt::Memory),
     }
 }
 
@@ -209,7 +131,7 @@ fn begin(
 {
     if !goes {
         if core.active.indices.set(k, value).is_err() {
-            return ends(core, End::Memory);
+            return halts(core, Halt::Memory);
         }
         core.active.place = past(routines, core.active.routine, core.active.place);
         return Move::Quiet;
@@ -218,11 +140,11 @@ fn begin(
         return Move::Waits;
     }
     if core.active.indices.set(k, value).is_err() {
-        return ends(core, End::Memory);
+        return halts(core, Halt::Memory);
     }
     match core.active.held.push(held) {
         Ok(()) => Move::Turn,
-        Err(_) => ends(core, End::Memory),
+        Err(_) => halts(core, Halt::Memory),
     }
 }
 
@@ -269,7 +191,7 @@ fn repeat(
     let _ = routines;
     if !goes {
         if core.active.indices.set(k, value).is_err() {
-            return ends(core, End::Memory);
+            return halts(core, Halt::Memory);
         }
         core.active.held.drop_top();
         return Move::Quiet;
@@ -278,7 +200,7 @@ fn repeat(
         return Move::Waits;
     }
     if core.active.indices.set(k, value).is_err() {
-        return ends(core, End::Memory);
+        return halts(core, Halt::Memory);
     }
     core.active.place = body;
     Move::Turn

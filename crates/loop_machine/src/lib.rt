@@ -1,18 +1,15 @@
-//! The machine that runs LoopC.
+//! The machine that runs LoopC. `specs/Running.antt` says what contracts see of it, and what an answer tells of the run.
 #![tactic(auto)]
 
 mod calls;
 mod end;
 mod flow;
 mod machine;
+mod moves;
 mod quick;
-mod routine;
-mod rows;
 mod run;
-mod state;
 mod step;
 mod sweep;
-mod values;
 
 pub use end::End;
 pub use machine::Machine;

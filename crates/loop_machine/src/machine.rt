@@ -4,17 +4,17 @@ ghost use Rattle.io_edge.specs.Causes.{Rose};
 ghost use Rattle.a95_base.specs.Outcome.{Outcome};
 ghost use Rattle.loop_tree.specs.State as state;
 ghost use Rattle.loop_tree.specs.Run.{Runs, configuration, start};
-ghost use Rattle.loop_machine.specs.Shown.{shown};
+ghost use Rattle.loop_rows.specs.Shown.{shown};
 ghost use Rattle.loop_machine.specs.Running.{Running, left_by, RunsTo, Answers};
 
 use crate::end::{End, left_by};
-use crate::routine::Routine;
 use crate::run::go;
-use crate::state::{Active, Core};
-use a95_base::Memory;
+use a95_base::{FaultKind, Memory};
 use io_edge::Sink;
+use loop_heap::{Blocks, Halt};
+use loop_rows::{Active, Core, Routine};
 use loop_tree::{Function, LoopProgram, Stack};
-use loop_values::{Blocks, Links, Numbers, Words};
+use loop_values::{Links, Numbers, Words};
 use record_io::Record;
 use sqlite_items::Items;
 use std::alloc::{AllocError, Global};
@@ -32,7 +32,7 @@ impl Model for Machine {
     ghost use Rattle.loop_tree.specs.contracts.tree.Stmt as stmt;
     ghost use Rattle.std.specs.Coded.{codes};
     ghost use Rattle.loop_machine.specs.Running.{Running};
-    ghost use Rattle.loop_machine.specs.Shown.{shown};
+    ghost use Rattle.loop_rows.specs.Shown.{shown};
 
     ghost Value = { Running };
 
@@ -82,7 +82,8 @@ impl Machine {
             pending: Record::new(alloc),
             input: Items::from_vec(input),
             taken: 0,
-            end: End::Ended,
+            fault: FaultKind::ZeroDivide,
+            halt: Halt::Memory,
         };
         Ok(Machine {
             routines,

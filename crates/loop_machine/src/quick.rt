@@ -6,14 +6,13 @@ ghost use Rattle.std.specs.Prelude.{◌≡◌, [], IfSome, IsTrue, true, false};
 ghost use Rattle.loop_tree.specs.State.{Goes, set_int};
 ghost use Rattle.loop_tree.specs.Values.{and_then, ints_at, int_cell, operation};
 ghost use Rattle.loop_tree.specs.Machine.{given, change_line, store_int, int_line, row_line, step};
-ghost use Rattle.loop_machine.specs.Shown.{shown, lines_in};
+ghost use Rattle.loop_rows.specs.Shown.{shown, lines_in};
 
 use crate::flow::is_below;
-use crate::routine::Routine;
-use crate::state::{Core, Held};
-use crate::values::atom;
+use loop_heap::Link;
+use loop_rows::{Core, Held, Routine, atom};
 use loop_tree::{Atom, BlockRow, CodeLine, IntValue, Operator, Row};
-use loop_values::{Link, difference, operation, product, sum, wrap};
+use loop_values::{difference, operation, product, sum, wrap};
 
 /// `iN = ..;`, where the value was found.
 #[inline(always)]
@@ -144,7 +143,7 @@ fn row(routines: &[Routine], core: &mut Core, row: &Row) -> bool
 
 /// The row that comes next, if it is such a one. `lines` are those of the function that is active.
 #[inline(always)]
-#[tactic(auto, unfolding(loop_tree::specs::Machine::step, loop_tree::specs::Machine::step_at, loop_tree::specs::Machine::do_line), using(crate::proofs::Exits::drop_some))]
+#[tactic(auto, unfolding(loop_tree::specs::Machine::step, loop_tree::specs::Machine::step_at, loop_tree::specs::Machine::do_line), using(loop_rows::proofs::Exits::drop_some))]
 pub fn next_row(routines: &[Routine], lines: &[CodeLine], core: &mut Core) -> bool
     requires { lines.now ≡ lines_in routines.now core.old.active.routine }
     ensures led { IsTrue result → step routines.now (shown routines.now core.old) ≡ Goes false [] (shown routines.now core.new) }
@@ -166,7 +165,7 @@ pub fn next_row(routines: &[Routine], lines: &[CodeLine], core: &mut Core) -> bo
 /// The next turn of a loop that goes upward, if it may begin, the line that comes next closes such a loop, and its body
 /// is begun again.
 #[inline(always)]
-#[tactic(auto, unfolding(loop_tree::specs::Machine::step, loop_tree::specs::Machine::step_at, loop_tree::specs::Machine::do_line, loop_tree::specs::Machine::close_line), using(crate::proofs::Exits::drop_some))]
+#[tactic(auto, unfolding(loop_tree::specs::Machine::step, loop_tree::specs::Machine::step_at, loop_tree::specs::Machine::do_line, loop_tree::specs::Machine::close_line), using(loop_rows::proofs::Exits::drop_some))]
 pub fn next_turn(routines: &[Routine], lines: &[CodeLine], core: &mut Core, may: bool) -> bool
     requires { lines.now ≡ lines_in routines.now core.old.active.routine }
     ensures led { IsTrue result → (may ≡ true) × (step routines.now (shown routines.now core.old) ≡ Goes true [] (shown routines.now core.new)) }

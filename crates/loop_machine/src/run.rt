@@ -4,18 +4,18 @@ ghost use Rattle.std.specs.Io.KnownBytes.{Appends, Keeps};
 ghost use Rattle.a95_base.specs.Record.{record_text};
 ghost use Rattle.io_edge.specs.Causes.{Rose};
 ghost use Rattle.io_edge.specs.Known.{AppendsPrefix};
-ghost use Rattle.loop_machine.specs.Shown.{shown};
+ghost use Rattle.loop_rows.specs.Shown.{shown};
 ghost use Rattle.loop_machine.specs.Running.{RunsTo};
 ghost use Rattle.loop_machine.specs.Steps.{Passed, Advanced};
 
-use crate::end::End;
-use crate::flow::lines_at;
+use crate::end::{End, halted};
+use crate::moves::Move;
 use crate::quick::{next_row, next_turn};
-use crate::routine::Routine;
-use crate::state::{Core, Move};
 use crate::step::step;
 use crate::sweep::sweep;
+use a95_base::Line;
 use io_edge::{PutFault, Sink};
+use loop_rows::{Core, Routine, lines_at};
 use std::alloc::{AllocError, Global};
 
 fn with_line_feed(alloc: Global, text: &[u8]) -> Result<Vec<u8>, AllocError>
@@ -52,7 +52,7 @@ fn write_record<K: Sink>(core: &mut Core, sink: &mut K) -> Result<(), PutFault>
 }
 
 /// One step, and the record that it writes, with so many turns left. Whether it began a turn, or the answer of the run.
-#[tactic(auto, using(crate::proofs::Ways::silent_step, crate::proofs::Answering::ends_so, crate::proofs::Answering::waits_here, crate::proofs::Answering::cut_short, crate::proofs::Answering::unwritten))]
+#[tactic(auto, using(crate::proofs::Ways::silent_step, crate::proofs::Answering::ends_here, crate::proofs::Answering::halts_here, crate::proofs::Answering::waits_here, crate::proofs::Answering::cut_short, crate::proofs::Answering::unwritten))]
 fn pass<K: Sink>(
     routines: &[Routine],
     core: &mut Core,
@@ -73,7 +73,15 @@ fn pass<K: Sink>(
             Err(PutFault::Memory) => Err(End::Memory),
         },
         Move::Waits => Err(End::TurnLimit),
-        Move::Ends => Err(core.end),
+        Move::Ended => Err(End::Ended),
+        Move::Fault => {
+            let line = Line(core.active.line);
+            Err(End::Fault {
+                kind: core.fault,
+                line,
+            })
+        }
+        Move::Halt => Err(halted(core.halt)),
     }
 }
 

@@ -1,21 +1,62 @@
-//! One line after another.
-ghost use Rattle.std.specs.Prelude.{IfOk};
-ghost use Rattle.loop_tree.specs.Machine.{control_line, row_line, do_line, step};
-ghost use Rattle.loop_machine.specs.Shown.{shown};
+//! One line after another. The work on a row stands in functions of their own, so that what may halt it goes through
+//! memory only there.
+ghost use Rattle.loop_tree.specs.Machine.{int_line, text_line, block_line, record_line, control_line, row_line, do_line, step};
+ghost use Rattle.loop_rows.specs.Shown.{shown};
 ghost use Rattle.loop_machine.specs.Moves.{Did};
 
 use crate::calls::call;
-use crate::end::End;
 use crate::flow::{
-    begin_down, begin_forever, begin_up, choose, close, leave, leave_loop, line_at, next_iteration,
+    begin_down, begin_forever, begin_up, choose, close, leave, leave_loop, next_iteration,
     pass_other, set_line,
 };
-use crate::routine::Routine;
-use crate::rows::{block_row, int_row, record_row, text_row};
-use crate::state::{Core, Move, ends};
-use crate::values::atom;
-use a95_base::Line;
-use loop_tree::{CodeLine, ControlRow, Row};
+use crate::moves::{Move, halts};
+use loop_rows::{Core, Routine, atom, change_block, gather, line_at, set_int, set_text};
+use loop_tree::{BlockRow, CodeLine, ControlRow, IntValue, RecordRow, Row, TextValue};
+
+#[inline(never)]
+fn int_row(routines: &[Routine], core: &mut Core, n: u32, value: &IntValue, may: bool) -> Move
+    ensures { Did (int_line (shown routines.now core.old) n value.now) may routines.now core.old core.new result }
+{
+    let _ = may;
+    match set_int(routines, core, n, value) {
+        Ok(()) => Move::Quiet,
+        Err(halt) => halts(core, halt),
+    }
+}
+
+#[inline(never)]
+fn text_row(routines: &[Routine], core: &mut Core, n: u32, value: &TextValue, may: bool) -> Move
+    ensures { Did (text_line (shown routines.now core.old) n value.now) may routines.now core.old core.new result }
+{
+    let _ = may;
+    match set_text(routines, core, n, value) {
+        Ok(()) => Move::Quiet,
+        Err(halt) => halts(core, halt),
+    }
+}
+
+#[inline(never)]
+fn block_row(routines: &[Routine], core: &mut Core, row: &BlockRow, may: bool) -> Move
+    ensures { Did (block_line (shown routines.now core.old) row.now) may routines.now core.old core.new result }
+{
+    let _ = may;
+    match change_block(routines, core, row) {
+        Ok(()) => Move::Quiet,
+        Err(halt) => halts(core, halt),
+    }
+}
+
+#[inline(never)]
+fn record_row(routines: &[Routine], core: &mut Core, row: &RecordRow, may: bool) -> Move
+    ensures { Did (record_line (shown routines.now core.old) row.now) may routines.now core.old core.new result }
+{
+    let _ = may;
+    match gather(routines, core, row) {
+        Ok(true) => Move::Record,
+        Ok(false) => Move::Quiet,
+        Err(halt) => halts(core, halt),
+    }
+}
 
 /// A row that says where the program goes on.
 #[inline(never)]
@@ -28,10 +69,10 @@ fn control_row(routines: &[Routine], core: &mut Core, row: &ControlRow, may: boo
         ControlRow::Continue => next_iteration(routines, core, may),
         ControlRow::Return => leave(routines, core, may),
         ControlRow::Call(n, arguments) => call(routines, core, *n, arguments.as_slice(), may),
-        ControlRow::Stop => ends(core, End::Ended),
+        ControlRow::Stop => Move::Ended,
         ControlRow::Fault(kind) => {
-            let line = Line(core.active.line);
-            ends(core, End::Fault { kind: *kind, line })
+            core.fault = *kind;
+            Move::Fault
         }
         ControlRow::At(n) => set_line(routines, core, *n, may),
     }

@@ -6,17 +6,15 @@ ghost use Rattle.std.specs.Int.{w64, int_wrap};
 ghost use Rattle.loop_tree.specs.State.{Goes, with_at};
 ghost use Rattle.loop_tree.specs.Values.{number_at, atom_in};
 ghost use Rattle.loop_tree.specs.Machine.{row_line, step, rest_of};
-ghost use Rattle.loop_machine.specs.Shown.{shown, lines_in};
+ghost use Rattle.loop_rows.specs.Shown.{shown, lines_in};
 ghost use Rattle.loop_machine.specs.Steps.{ReachesSilently};
 ghost use Rattle.loop_machine.specs.Plans.{atom_of_index, atom_of_operand, found_in, row_of, IsSettled, Plans, assembled, placed};
 
-use crate::flow::lines_at;
 use crate::quick::operated;
-use crate::routine::Routine;
-use crate::state::{Core, Held};
-use crate::values::atom;
+use loop_heap::{Blocks, Link};
+use loop_rows::{Core, Held, Routine, atom, lines_at};
 use loop_tree::{Atom, BlockRow, CodeLine, ControlRow, IntValue, Operator, Row};
-use loop_values::{Blocks, Link, Numbers, sum, wrap};
+use loop_values::{Numbers, sum, wrap};
 use std::mem;
 
 // With fewer turns than this, reading the rows would cost more than it spares.

@@ -9,7 +9,7 @@ use Rattle.std.proofs.lemmas.Bool.{false_from_ne_true}
 use Rattle.std.proofs.lemmas.Bool.Decides.{nat_tests, Decides-eqb}
 use Rattle.std.proofs.lemmas.Slice.Eq.{starts_is}
 use Rattle.memchr.specs.Find.{OccursAt}
-use Rattle.loop_values.proofs.Ends.{take_end}
+use Rattle.loop_heap.proofs.Ends.{take_end}
 use Rattle.a95_base.specs.Text.{is_blank, trim, place_from}
 
 -- ---- blanks at the end

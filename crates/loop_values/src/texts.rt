@@ -4,10 +4,10 @@ ghost use Rattle.std.specs.Option.{ok_or};
 ghost use Rattle.a95_base.specs.Text.{compare_padded, first_place, fit, code_of, char_of, part_of, trim, trim_front, adjust_left, adjust_right};
 ghost use Rattle.loop_tree.specs.declared.stuck.StuckState.TheVariants.{OutsideText, NoByte};
 ghost use Rattle.loop_tree.specs.Values.{order_number, sub, replaced, fitted};
-ghost use Rattle.loop_values.specs.Halts.{Yields};
+ghost use Rattle.loop_heap.specs.Halts.{Yields};
 
-use crate::halt::Halt;
 use a95_base::{Bytes, compare_padded};
+use loop_heap::Halt;
 use loop_tree::StuckState;
 use memchr::memmem;
 use std::alloc::{AllocError, Global};

@@ -3,9 +3,9 @@ ghost use Rattle.std.specs.Prelude.{◌≡◌, [], ◌∷◌, ◌++◌, pos, Non
 ghost use Rattle.loop_tree.specs.State.{with_at};
 ghost use Rattle.loop_tree.specs.Values.{number_at, text_at, block_at};
 
-use crate::link::Link;
 use crate::table::{First, Table};
 use a95_base::Bytes;
+use loop_heap::Link;
 use std::alloc::{AllocError, Global};
 use std::marker::Model;
 

@@ -1,8 +1,8 @@
 use Rattle.std.proofs.Common.{ap, sym, ◌∙◌, drop}
 use Rattle.std.specs.Prelude.{map}
 use Rattle.loop_tree.specs.Machine.{Place, exits, loop_end}
-use Rattle.loop_machine.specs.Shown.{lines_in, brace}
-use Rattle.loop_machine.proofs.Exits.{exits_at_own, closes_own, closes_outer, choice_passed, at_loop}
+use Rattle.loop_rows.specs.Shown.{lines_in, brace}
+use Rattle.loop_rows.proofs.Exits.{exits_at_own, closes_own, closes_outer, choice_passed, at_loop}
 use Rattle.loop_machine.proofs.flow.loop_close.Goals as goal
 
 pub loop-held-init : goal.loop-held-init

@@ -1,7 +1,7 @@
 use Rattle.std.proofs.Common.{◌≡◌, drop, length}
 use Rattle.std.specs.Prelude.{map}
 use Rattle.loop_tree.specs.Machine.{exits, first_exit, loop_end}
-use Rattle.loop_machine.specs.Shown.{lines_in, brace}
+use Rattle.loop_rows.specs.Shown.{lines_in, brace}
 use Rattle.loop_machine.proofs.flow.loop_close.Given as goal
 
 abbrev pub invariant-loop-held : goal.invariant-loop-held

@@ -1,9 +1,9 @@
 use Rattle.std.proofs.Common.{Result, Err, ◌<◌, ◌+◌, ◌∙◌, ℕ, zero, suc, nat_lt, true, false, ◌≡◌, Ok, ap, refl, sym, subst, arith}
 use Rattle.loop_tree.proofs.Lessens.{left_over}
-use Rattle.loop_machine.specs.declared.state.Core.{Core}
+use Rattle.loop_rows.specs.declared.state.Core.{Core}
 use Rattle.loop_machine.specs.declared.end.End.{End}
 use Rattle.loop_machine.specs.declared.end.End.TheVariants as end
-use Rattle.loop_machine.specs.Shown.{shown, lines_in}
+use Rattle.loop_rows.specs.Shown.{shown, lines_in}
 use Rattle.loop_machine.specs.Steps.{Advances, Passed}
 use Rattle.loop_machine.proofs.Ways.{advances_none, then_step, silent_step, step_lessens_left}
 use Rattle.loop_machine.proofs.Answering.{then_runs}

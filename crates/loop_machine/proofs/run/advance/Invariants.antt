@@ -1,6 +1,6 @@
 use Rattle.std.proofs.Common.{◌≡◌}
 use Rattle.loop_tree.proofs.Lessens.{left_over}
-use Rattle.loop_machine.specs.Shown.{shown, lines_in}
+use Rattle.loop_rows.specs.Shown.{shown, lines_in}
 use Rattle.loop_machine.specs.Steps.{Advances}
 use Rattle.loop_machine.proofs.run.advance.Given as goal
 

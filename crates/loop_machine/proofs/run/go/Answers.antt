@@ -1,7 +1,7 @@
 use Rattle.std.proofs.Common.{◌≡◌, ◌+◌, ◌-◌, ◌∙◌, Result, Ok, Err, refl, subst, arith}
 use Rattle.loop_machine.specs.declared.end.End.{End}
 use Rattle.loop_machine.specs.declared.end.End.TheVariants as end
-use Rattle.loop_machine.specs.Shown.{shown}
+use Rattle.loop_rows.specs.Shown.{shown}
 use Rattle.loop_machine.specs.Steps.{Advances}
 use Rattle.loop_machine.proofs.Ways.{advances_none, advances_then, advances_silently}
 use Rattle.loop_machine.proofs.Answering.{then_runs}

@@ -1,5 +1,5 @@
 use Rattle.std.proofs.Common.{◌≡◌, ◌≤◌, ◌-◌}
-use Rattle.loop_machine.specs.Shown.{shown}
+use Rattle.loop_rows.specs.Shown.{shown}
 use Rattle.loop_machine.specs.Steps.{Advances}
 use Rattle.loop_machine.proofs.run.go.Given as goal
 

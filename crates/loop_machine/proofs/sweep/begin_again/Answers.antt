@@ -6,7 +6,7 @@ use Rattle.loop_tree.specs.declared.tree.CodeLine.{CodeLine}
 use Rattle.loop_tree.specs.declared.tree.CodeLine.TheVariants as code
 use Rattle.loop_tree.specs.State.{Goes, with_at}
 use Rattle.loop_tree.specs.Values.{number_at, atom_in}
-use Rattle.loop_machine.specs.Shown.{shown}
+use Rattle.loop_rows.specs.Shown.{shown}
 use Rattle.loop_machine.specs.Plans.{assembled, placed}
 use Rattle.loop_machine.proofs.Turns.{begins_again}
 use Rattle.loop_machine.proofs.sweep.begin_again.Goals as goal

@@ -3,12 +3,12 @@ use Rattle.std.specs.Prelude.{slice_get}
 use Rattle.loop_tree.specs.declared.tree.CodeLine.{CodeLine}
 use Rattle.loop_tree.specs.declared.tree.CodeLine.TheVariants as code
 use Rattle.loop_tree.specs.Values.{number_at}
-use Rattle.loop_machine.specs.declared.state.Core.{Core}
-use Rattle.loop_machine.specs.Shown.{shown, lines_in}
+use Rattle.loop_rows.specs.declared.state.Core.{Core}
+use Rattle.loop_rows.specs.Shown.{shown, lines_in}
 use Rattle.loop_machine.specs.Steps.{ReachesSilently}
 use Rattle.loop_machine.specs.Plans.{IsSettled, assembled, placed, row_of}
 use Rattle.loop_machine.proofs.Variables.{set_same}
-use Rattle.loop_machine.proofs.Exits.{drop_next}
+use Rattle.loop_rows.proofs.Exits.{drop_next}
 use Rattle.loop_machine.proofs.Ways.{no_way, step_on}
 use Rattle.loop_machine.proofs.Plans.{first_at}
 use Rattle.loop_machine.proofs.Turns.{row_leads}

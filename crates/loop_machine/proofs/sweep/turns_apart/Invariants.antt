@@ -1,6 +1,6 @@
 use Rattle.std.proofs.Common.{◌≡◌, ◌≤◌, ◌+◌, ◌*◌, ◌-◌, drop, length}
 use Rattle.loop_tree.specs.Values.{number_at}
-use Rattle.loop_machine.specs.Shown.{shown}
+use Rattle.loop_rows.specs.Shown.{shown}
 use Rattle.loop_machine.specs.Steps.{ReachesSilently}
 use Rattle.loop_machine.specs.Plans.{assembled, placed}
 use Rattle.loop_machine.proofs.sweep.turns_apart.Given as goal

@@ -1,0 +1,4 @@
+pub mod Halts
+pub mod Heap
+pub mod Contents
+pub mod Slots

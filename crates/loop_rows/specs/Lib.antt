@@ -1,0 +1,4 @@
+pub mod Callees
+pub mod Exits
+pub mod Rows
+pub mod Shown
