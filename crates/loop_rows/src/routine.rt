@@ -11,7 +11,7 @@ use std::marker::Model;
 
 /// Where the two innermost braces that are open at a line close, as places in the function's lines. A place behind
 /// all lines stands for none.
-#[derive(Clone, Copy, Debug)]
+#[derive(Clone, Copy)]
 pub struct Exit {
     own: usize,
     outer: usize,

@@ -8,7 +8,7 @@ use sqlite_items::Items;
 use std::alloc::Global;
 
 /// An open brace. `body` is the place of the first line of a loop's body.
-#[derive(Clone, Copy, Debug)]
+#[derive(Clone, Copy)]
 pub enum Held {
     Choice,
     Upward { k: u32, bound: Atom, body: usize },
