@@ -1,5 +1,5 @@
--- The program of a unit follows it, in both directions.
-use Rattle.std.proofs.Common.{◌≡◌, inl, inr, ℕ, ◌+◌, ◌*◌, ◌≤◌, ◌^◌, true, List, [], ◌∷◌, ◌++◌, ap, ◌∙◌, sym, arith, length, nat_le, append-nil}
+-- The program of a unit follows it.
+use Rattle.std.proofs.Common.{◌≡◌, ℕ, ◌+◌, ◌*◌, ◌≤◌, ◌^◌, true, List, [], ◌∷◌, arith, length, nat_le}
 use Rattle.std.specs.List.{list_all, sum_by}
 use Rattle.std.proofs.lemmas.List.Sums.{sum_by-cons}
 use Rattle.std.proofs.Math.Nat.{mul-le-mul_left}
@@ -10,52 +10,15 @@ use Rattle.rank_one.specs.declared.unit.Action.{Action}
 use Rattle.rank_one.specs.declared.unit.Action.TheVariants.{Assign, Print}
 use Rattle.rank_one.specs.Meaning.{output}
 use Rattle.rank_one.specs.Typed.{IsTyped, size_of, size_of_action}
-use Rattle.loop_tree.specs.declared.tree.Function.{Function}
-use Rattle.loop_tree.specs.State as machine
-use Rattle.loop_tree.specs.State.{End, Next, Goes, Ends}
-use Rattle.loop_tree.specs.Machine.{step}
-use Rattle.loop_tree.specs.Run.{Trail, trail, Leads, Outcome, Finished, Going, FinishesAt, GoesOnAt, Runs, start}
-use Rattle.loop_tree.specs.RunLaws.{IsPrefix}
-use Rattle.loop_tree.proofs.Runs.{linear, last, grows}
+use Rattle.loop_tree.specs.Run.{configuration, start}
+use Rattle.loop_laws.specs.Follows.{Follows}
+use Rattle.loop_laws.proofs.Follows.{follows_both_ways}
+use Rattle.f95a_core.specs.Source.{source_run, turn_bound}
 use Rattle.f95a_core.specs.Lowered.{program_of}
-use Rattle.f95a_core.specs.Follows as follows
-use Rattle.f95a_core.specs.Follows.{Follows, SourceDid, turn_bound}
+use Rattle.f95a_core.proofs.Reaching.{turns_are}
 use Rattle.f95a_core.proofs.Actions.{shown_cost}
 use Rattle.f95a_core.proofs.Statements.{small_extent, action_cost, statements_cost}
 use Rattle.f95a_core.proofs.Whole.{unit_goes}
-
--- ---- any outcome of the program is that of the source
-
-module _ (functions : List Function) (final : List ℕ) (begin : Trail) (r : Trail) (there : Leads functions begin r) (wrote : r.told ≡ final) (ends : step functions r.state ≡ Ends machine.Ended) where
-  -- where another run finishes, it does so at the same place
-  same_last : (other : Trail) (how : End) → Leads functions begin other → step functions other.state ≡ Ends how → other ≡ r
-  same_last other how leads finish =
-      elim (linear functions begin r other there leads) [
-        | inl way ↦ last functions r other machine.Ended ends way
-        | inr way ↦ sym (last functions other r how finish way)
-      ]
-
-  finished : (told : List ℕ) (how : End) (limit : ℕ) → FinishesAt functions begin limit told how → SourceDid (follows.Ended final) told (Finished how)
-  finished told how limit f = by how (same_step (same_last f.last how f.leads f.ends)) (sym f.wrote ∙ ap (λ (t : Trail). t.told) (same_last f.last how f.leads f.ends) ∙ wrote)
-    where
-      same_step : f.last ≡ r → Ends how ≡ Ends machine.Ended
-      same_step e = sym f.ends ∙ ap (λ (t : Trail). step functions t.state) e ∙ ends
-
-      by : (how : End) → Ends how ≡ Ends machine.Ended → told ≡ final → SourceDid (follows.Ended final) told (Finished how)
-      by machine.Ended e t = ap follows.Ended (sym t)
-      by (machine.Faulted kind line) e t = cc
-      by (machine.Stuck why) e t = absurd cc
-
-  goes_on : (told : List ℕ) (limit : ℕ) → GoesOnAt functions begin limit told → IsPrefix told final
-  goes_on told limit g =
-      elim (linear functions begin r g.last there g.leads) [
-        | inl way ↦ record { more = []; is = sym wrote ∙ ap (λ (t : Trail). t.told) (sym (last functions r g.last machine.Ended ends way)) ∙ g.wrote ∙ sym (append-nil told) }
-        | inr way ↦ let more = grows functions g.last r way in record { more = more.more; is = sym wrote ∙ more.told ∙ ap (λ (o : List ℕ). o ++ more.more) g.wrote }
-      ]
-
-  pub did : (limit : ℕ) (told : List ℕ) (outcome : Outcome) → Runs functions begin limit told outcome → SourceDid (follows.Ended final) told outcome
-  did limit told (Finished how) f = finished told how limit f
-  did limit told Going g = goes_on told limit g
 
 -- ---- turns
 
@@ -89,13 +52,12 @@ within_bound unit typed bytes turns size =
 
 -- ---- both directions
 
-pub follows_it : (unit : Unit) → IsTyped unit → (bytes : ℕ) → size_of unit ≤ bytes → Follows unit (program_of unit) bytes
-follows_it unit typed bytes size = record {
-  does = λ input turns.
-      let r = (unit_goes unit typed input).go 0 in
-      let bound = within_bound unit typed bytes turns size in
-      record { last = r.last; leads = r.leads; within = omega (arith, r.within, bound); wrote = r.wrote; ends = r.ends };
-  did = λ input turns told outcome runs.
-      let r = (unit_goes unit typed input).go 0 in
-      did (program_of unit) (output unit) (trail 0 [] (start (program_of unit) input)) r.last r.leads r.wrote r.ends turns told outcome runs;
-}
+pub follows_it : (unit : Unit) → IsTyped unit → (bytes : ℕ) → size_of unit ≤ bytes → Follows (source_run unit) (turn_bound bytes) (program_of unit)
+follows_it unit typed bytes size =
+    let cost = statements_cost unit.arrays unit.statements in
+    follows_both_ways (source_run unit) (λ input turns. cost) (turn_bound bytes) (program_of unit)
+    (record {
+      meets = λ input turns. turns_are (program_of unit) (output unit) (configuration 0 [] (start (program_of unit) input)) turns (0 + cost) cost (omega arith)
+          ((unit_goes unit typed input).go 0 turns);
+    })
+    (λ input turns. within_bound unit typed bytes turns size)

@@ -1,35 +1,55 @@
--- How the end of a machine's run is the status of a program's execution.
-use Rattle.std.proofs.Common.{◌≡◌, inr, ℕ, List, [], length, take, ap, sym, subst, ◌∙◌, Option, arith}
-use Rattle.std.specs.Io.KnownBytes.{Appends}
-use Rattle.std.proofs.Math.Seq.{take-append_seam}
+-- How the answer of a machine is the status of a run.
+use Rattle.std.proofs.Common.{◌≡◌, ◌≢◌, inl, inr, refl, ℕ, ◌+◌, List, [], ◌++◌, length, Option, Some, None, sym, subst, ap, ◌∙◌}
+use Rattle.io_edge.specs.Causes.{Rose}
+use Rattle.io_edge.specs.Known.{Loads}
+use Rattle.a95_base.specs.Outcome.{Outcome, Finished, Going, Ended, Faulted}
 use Rattle.loop_tree.specs.declared.tree.Function.{Function}
-use Rattle.loop_tree.specs.State.{State}
-use Rattle.loop_tree.specs.Run.{trail, start}
-use Rattle.loop_tree.specs.RunLaws.{IsPrefix, SomeOutcome}
-use Rattle.loop_machine.specs.declared.end.End.{End}
-use Rattle.loop_machine.specs.declared.end.End.TheVariants as end
+use Rattle.loop_tree.specs.State.{State, End, Comes, Stuck}
+use Rattle.loop_tree.specs.Run.{start}
+use Rattle.loop_tree.specs.Program.{ReadsText}
+use Rattle.loop_machine.specs.declared.end.End as end
+use Rattle.loop_machine.specs.declared.end.End.TheVariants as ends
 use Rattle.loop_machine.specs.Running as machine
-use Rattle.f95a_core.specs.Running.{Executed, TellsFront, status_of}
+use Rattle.f95a_core.specs.Outside.{Files, Stream, IsTold, NoLoadFailed}
+use Rattle.f95a_core.specs.Intake.{TakenAll}
+use Rattle.f95a_core.specs.Running.{job, Executes, WritesRun, WritesPrefixOfRun, RunComesTo, status_of_end}
 
--- what was written is a front of what the program writes
-front_is_told : SomeOutcome → (functions : List Function) (input : List ℕ) (turns : ℕ) (old new : Option (List ℕ))
-    → machine.TellsFront functions (start functions input) turns old new → TellsFront functions input turns old new
-front_is_told some functions input turns old new h =
-    let whole = some functions (trail 0 [] (start functions input)) turns (omega arith) in
-    let front : IsPrefix h.written whole.told = h.front whole.told whole.outcome whole.runs in
-    let taken : take (length h.written) whole.told ≡ h.written = ap (take (length h.written)) front.is ∙ take-append_seam h.written front.more in
-    record {
-      said = whole.told;
-      outcome = whole.outcome;
-      runs = whole.runs;
-      appended = (length h.written, subst (λ (bytes : List ℕ). Appends old new bytes) (sym taken) h.appended);
-    }
+-- a file that was loaded and read as the text of a program, whose input was taken to its end
+pub record Ready (name : List ℕ) (files files' : Files) (input input' : Stream) (program : List Function) (bytes : List ℕ) : Type 0 where
+  pub loaded : NoLoadFailed files files'
+  pub text : List ℕ
+  pub file : IsTold (files.file name) text
+  pub reads : ReadsText text program
+  pub taken : TakenAll input.bytes input'.bytes bytes
 
-pub executed : SomeOutcome → (e : End) (functions : List Function) (input : List ℕ) (turns : ℕ) (to : State) (old new : Option (List ℕ))
-    → machine.RunsTo functions (start functions input) turns e to old new → Executed (status_of e) functions input turns old new
-executed some end.Ended functions input turns to old new h = h
-executed some (end.Fault kind line) functions input turns to old new h = h
-executed some (end.Stuck why) functions input turns to old new h = h
-executed some end.TurnLimit functions input turns to old new h = record { told = h.told; runs = h.runs; appended = h.appended }
-executed some end.WriteFault functions input turns to old new h = front_is_told some functions input turns old new h
-executed some end.Memory functions input turns to old new h = inr (front_is_told some functions input turns old new h)
+module _ (name : List ℕ) (turns : ℕ) (files files' : Files) (input input' out out' : Stream) (program : List Function) (bytes : List ℕ) (r : Ready name files files' input input' program bytes) where
+  writes : (outcome : Outcome End) → machine.Writes program (start program bytes) turns outcome out.bytes out'.bytes → WritesRun (job (files.file name) input.bytes turns) outcome input' out out'
+  writes outcome w = record {
+    written = w.written;
+    executes = record { text = r.text; file = r.file; program = program; reads = r.reads; input = bytes; held = r.taken.held; short = r.taken.short; runs = w.runs };
+    taken = r.taken.end;
+    appended = w.appended;
+  }
+
+  writes_prefix : machine.WritesPrefix program (start program bytes) turns out.bytes out'.bytes → WritesPrefixOfRun (job (files.file name) input.bytes turns) input' out out'
+  writes_prefix w = record {
+    written = w.written;
+    outcome = w.outcome;
+    executes = record { text = r.text; file = r.file; program = program; reads = r.reads; input = bytes; held = r.taken.held; short = r.taken.short; runs = w.runs };
+    taken = r.taken.end;
+    appended = w.appended;
+  }
+
+  pub executed : (e : end.End) (to : State) → machine.RunsTo program (start program bytes) turns e to out.bytes out'.bytes → (e ≡ ends.WriteFault → Rose out.faults out'.faults)
+      → RunComesTo name turns files files' input input' out out' (status_of_end e)
+  executed ends.Ended to h rose = (r.loaded, writes (Finished (Comes Ended)) h)
+  executed (ends.Fault kind line) to h rose = (r.loaded, writes (Finished (Comes (Faulted kind line.0))) h)
+  executed (ends.Stuck why) to h rose = (r.loaded, writes (Finished (Stuck why)) h)
+  executed ends.TurnLimit to h rose = (r.loaded, writes Going (record { written = h.written; runs = h.runs; appended = h.appended }))
+  executed ends.WriteFault to h rose = (r.loaded, rose refl, writes_prefix h)
+  executed ends.Memory to h rose = (r.loaded, inr (writes_prefix h))
+
+-- what was loaded into an empty buffer is the file, where it is told
+pub told_by : (told : Option (List ℕ)) (old new bytes : List ℕ) → old ≡ [] → bytes ≡ new → Loads told old new → IsTold told bytes
+told_by None old new bytes empty same h = tt
+told_by (Some b) old new bytes empty same h = sym (same ∙ h ∙ ap (λ (o : List ℕ). o ++ b) empty)

@@ -1,7 +1,5 @@
-pub mod Flat
 pub mod Reaching
 pub mod Rows
-pub mod Cells
 pub mod Turns
 pub mod Sums
 pub mod Elements
@@ -11,11 +9,10 @@ pub mod Statements
 pub mod Whole
 pub mod Both
 pub mod Grammatical
-pub mod Answering
 pub mod Digits
 pub mod Taking
 pub mod Joined
-pub mod Telling
 pub mod Ends
-pub mod Pieces
-pub mod Written
+mod Noting
+mod Completed
+mod Lowering

@@ -14,6 +14,7 @@ use Rattle.rank_one.specs.declared.unit.Factor.{Factor}
 use Rattle.rank_one.specs.declared.unit.Factor.TheVariants as factor
 use Rattle.rank_one.specs.declared.unit.Sum.{Sum}
 use Rattle.rank_one.specs.Meaning.{array_at, sum_value, elements}
+use Rattle.loop_tree.specs.declared.stuck.StuckState.TheVariants as stuck
 use Rattle.loop_tree.specs.declared.atom.Atom.{Atom}
 use Rattle.loop_tree.specs.declared.atom.Atom.TheVariants as atom
 use Rattle.loop_tree.specs.declared.atom.Reference.TheVariants as reference
@@ -33,50 +34,21 @@ use Rattle.loop_tree.specs.State.{Brace, Cells, Ints, Block, Goes, cells_numbere
 use Rattle.loop_tree.specs.Values.{number_at, block_at, atom_in, and_then, place_in}
 use Rattle.loop_tree.specs.Machine.{step, changed, store_int}
 use Rattle.f95a_core.specs.Lowered.{set_row, load, factor_atom, times, product_code, term_code, term_atom, plus, addends_code, sum_code, sum_atom, is_factor, value_code, value_atom, at_line, fill, move, free, show}
-use Rattle.f95a_core.proofs.Flat.{first_row, split}
+use Rattle.loop_laws.proofs.Braces.{first_row, split}
 use Rattle.f95a_core.proofs.Reaching.{Good, silent}
 use Rattle.f95a_core.proofs.Rows.{Vars, at, with_int, step_line, step_cell, step_store, step_free, step_put}
-use Rattle.f95a_core.proofs.Cells.{with_at_same, changed_same, changed_other, without_other}
-use Rattle.f95a_core.proofs.Turns.{Passes, passes_none, passes_row, passes_both, Round, loop_does}
+use Rattle.loop_laws.proofs.Numbered.{with_at_same, changed_here, changed_elsewhere, freed_elsewhere}
+use Rattle.f95a_core.proofs.Turns.{Round, loop_does}
 use Rattle.f95a_core.proofs.Sums.{Holds, ints_there, cell_there, value_goes}
 use Rattle.f95a_core.proofs.Elements.{SumFits, sum_has, sum_shows, stored_is, IsInt}
 
 -- any row in front
-pub row_before : (functions : List Function) (final told : List ℕ) (cost : ℕ) (v w : Vars) (r : Row) (more : List Stmt) (rest : List CodeLine) (braces : List Brace)
+pub row_before : (functions : List Function) (final written : List ℕ) (cost : ℕ) (v w : Vars) (r : Row) (more : List Stmt) (rest : List CodeLine) (braces : List Brace)
     → step functions (at v (code.Row r ∷ (flats more ++ rest)) braces) ≡ Goes false [] (at w (flats more ++ rest) braces)
-    → Good functions final cost told (at w (flats more ++ rest) braces) → Good functions final cost told (at v (flats (stmt.Row r ∷ more) ++ rest) braces)
-row_before functions final told cost v w r more rest braces e g =
-    subst (λ (ls : List CodeLine). Good functions final cost told (at v ls braces)) (sym (first_row r more rest))
-    (silent functions final cost told (at v (code.Row r ∷ (flats more ++ rest)) braces) (at w (flats more ++ rest) braces) e g)
-
--- ---- the lines of a right side open no brace
-
-passes_load : (n : ℕ) (f : Factor) → Passes (load n f)
-passes_load n (factor.Number z) = passes_none
-passes_load n (factor.Array p) = passes_row _ _ passes_none
-
-passes_product : (n : ℕ) (left : Atom) (fs : List Factor) → Passes (product_code n left fs)
-passes_product n left [] = passes_none
-passes_product n left (f ∷ fs) =
-    passes_both (times n left f) (product_code n (atom.Int n) fs) (passes_both (load 2 f) _ (passes_load 2 f) (passes_row _ _ passes_none)) (passes_product n (atom.Int n) fs)
-
-passes_term : (n : ℕ) (t : Term) → Passes (term_code n t)
-passes_term n t = passes_both (load n t.first) _ (passes_load n t.first) (passes_product n (factor_atom n t.first) t.rest)
-
-passes_addends : (left : Atom) (more : List Addend) → Passes (addends_code left more)
-passes_addends left [] = passes_none
-passes_addends left (a ∷ more) =
-    passes_both (plus left a) (addends_code (atom.Int 0) more) (passes_both (term_code 1 a.term) _ (passes_term 1 a.term) (passes_row _ _ passes_none)) (passes_addends (atom.Int 0) more)
-
-passes_sum : (s : Sum) → Passes (sum_code s)
-passes_sum s = passes_both (term_code 0 s.first) _ (passes_term 0 s.first) (passes_addends (term_atom 0 s.first) s.rest)
-
-passes_value : (s : Sum) → Passes (value_code s)
-passes_value s = passes_both (sum_code s) _ (passes_sum s) (by (is_factor s))
-  where
-    by : (alone : Bool) → Passes (if alone then [] else set_row 0 (int.Wrap (sum_atom s)) ∷ [])
-    by true = passes_none
-    by false = passes_row _ _ passes_none
+    → Good functions final cost written (at w (flats more ++ rest) braces) → Good functions final cost written (at v (flats (stmt.Row r ∷ more) ++ rest) braces)
+row_before functions final written cost v w r more rest braces e g =
+    subst (λ (ls : List CodeLine). Good functions final cost written (at v ls braces)) (sym (first_row r more rest))
+    (silent functions final cost written (at v (code.Row r ∷ (flats more ++ rest)) braces) (at w (flats more ++ rest) braces) e g)
 
 -- ---- stores
 
@@ -88,13 +60,13 @@ store_there blocks references b n i cells z x named there e h =
     ap (λ (r : Option ℕ). changed blocks r (store_int z x)) named
     ∙ ap (λ (o : Option Cells). and_then (cells_or_stuck o) (λ c. and_then (store_int z x c) (λ new. Ok (with_cells blocks n new)))) there
     ∙ ap (λ (k : ℤ). and_then (and_then (and_then (place_in k (length cells)) (λ p. Ok (set cells p x))) (λ new. Ok (Ints new))) (λ new. Ok (with_cells blocks n new))) e
-    ∙ ap (λ (t : Bool). and_then (and_then (and_then (if t then Ok i else Err 1) (λ p. Ok (set cells p x))) (λ new. Ok (Ints new))) (λ new. Ok (with_cells blocks n new))) within
+    ∙ ap (λ (t : Bool). and_then (and_then (and_then (if t then Ok i else Err stuck.OutsideBlock) (λ p. Ok (set cells p x))) (λ new. Ok (Ints new))) (λ new. Ok (with_cells blocks n new))) within
 
 -- a block that holds no array may change
 holds_beside : (arrays : List (List ℤ)) (blocks : List Block) (references : List (Option ℕ)) (made n : ℕ) (c : Cells) → length arrays ≤ n
     → Holds arrays blocks references made → Holds arrays (with_cells blocks n c) references made
 holds_beside arrays blocks references made n c far h = record {
-  cells = λ p within. let ne : n ≢ p = omega arith in changed_other blocks n p c ne ∙ h.cells p within;
+  cells = λ p within. let ne : n ≢ p = omega arith in changed_elsewhere blocks n p c ne ∙ h.cells p within;
   named = h.named;
   fewer = h.fewer;
 }
@@ -111,10 +83,10 @@ holds_changed arrays blocks references made t old new within h = record {
     by : (p : ℕ) → p < length arrays → (p ≡ t) ⊎ (p ≢ t) → cells_numbered (with_cells blocks t (Ints new)) p ≡ Some (Ints (array_at (set arrays t new) p))
     by p here (inl e) =
         subst (λ q. cells_numbered (with_cells blocks t (Ints new)) q ≡ Some (Ints (array_at (set arrays t new) q))) (sym e)
-        (changed_same blocks t (Ints new) (Ints (array_at (set arrays t old) t)) (h.cells t (subst (λ m. t < m) (sym (length-set arrays t old)) within))
+        (changed_here blocks t (Ints (array_at (set arrays t old) t)) (Ints new) (h.cells t (subst (λ m. t < m) (sym (length-set arrays t old)) within))
         ∙ ap (λ (c : List ℤ). Some (Ints c)) (sym (get_or-set_same arrays t new [] within)))
     by p here (inr e) =
-        changed_other blocks t p (Ints new) (λ x. e (sym x)) ∙ h.cells p (subst (λ m. p < m) (sym (length-set arrays t old)) here)
+        changed_elsewhere blocks t p (Ints new) (λ x. e (sym x)) ∙ h.cells p (subst (λ m. p < m) (sym (length-set arrays t old)) here)
         ∙ ap (λ (c : List ℤ). Some (Ints c)) (get_or-set_other arrays t p old [] e ∙ sym (get_or-set_other arrays t p new [] e))
 
 -- the first i cells are the first i elements of xs, and there are n cells
@@ -151,7 +123,7 @@ pub record Filling (arrays : List (List ℤ)) (xs : List ℤ) (n m i : ℕ) (v :
   pub filled : Filled xs n i cells
   pub clean : v.pending ≡ []
 
-module _ (functions : List Function) (final told : List ℕ) (arrays : List (List ℤ)) (line n m : ℕ) (sum : Sum) (fits : SumFits arrays n sum) where
+module _ (functions : List Function) (final written : List ℕ) (arrays : List (List ℤ)) (line n m : ℕ) (sum : Sum) (fits : SumFits arrays n sum) where
   abbrev whole : List ℤ
   whole = elements n (sum_value arrays sum)
 
@@ -161,20 +133,20 @@ module _ (functions : List Function) (final told : List ℕ) (arrays : List (Lis
   abbrev fill_body : List Stmt
   fill_body = at_line line ∷ (value_code sum ++ (store_row (length arrays) ∷ []))
 
-  fill_round : Round functions final told n fill_body (λ i v. Filling arrays whole n m i v)
+  fill_round : Round functions final written n fill_body (λ i v. Filling arrays whole n m i v)
   fill_round = record {
     does = λ cost i v rest braces within is inv go.
         let put = store_row (length arrays) ∷ [] in
         let u : Vars = record v { line = line } in
-        row_before functions final told cost v u (row.Control (control.At line)) (value_code sum ++ put) rest braces
+        row_before functions final written cost v u (row.Control (control.At line)) (value_code sum ++ put) rest braces
         (step_line functions v (flats (value_code sum ++ put) ++ rest) braces line)
-        (subst (λ (ls : List CodeLine). Good functions final cost told (at u ls braces)) (sym (split (value_code sum) put rest))
-        (value_goes functions final told cost arrays i u inv.holds is braces sum (sum_has arrays n i within sum fits) v.ints (flats put ++ rest) (λ after e.
+        (subst (λ (ls : List CodeLine). Good functions final cost written (at u ls braces)) (sym (split (value_code sum) put rest))
+        (value_goes functions final written cost arrays i u inv.holds is braces sum (sum_has arrays n i within sum fits) v.ints (flats put ++ rest) (λ after e.
         let x = atom_in after v.indices (value_atom sum) in
         let value : x ≡ number_at whole i = e ∙ stored_is arrays i sum ∙ sym ((sum_shows arrays n sum fits).each i within) in
         let blocks = with_cells v.blocks m (Ints (set inv.cells i x)) in
         let w : Vars = record u { ints = after; blocks = blocks } in
-        row_before functions final told cost (record u { ints = after }) w (row.Block (block.StoreInt (length arrays) (atom.Loop 1) (value_atom sum))) [] rest braces
+        row_before functions final written cost (record u { ints = after }) w (row.Block (block.StoreInt (length arrays) (atom.Loop 1) (value_atom sum))) [] rest braces
         (step_store functions (record u { ints = after }) rest braces (length arrays) (atom.Loop 1) (value_atom sum) blocks
         (store_there v.blocks v.references (length arrays) m i inv.cells (number_at v.indices 1) x inv.temporary.named inv.temporary.there is
         (subst (λ k. i < k) (sym inv.filled.size) within)))
@@ -184,7 +156,7 @@ module _ (functions : List Function) (final told : List ℕ) (arrays : List (Lis
           temporary = record {
             beside = inv.temporary.beside;
             named = inv.temporary.named;
-            there = changed_same v.blocks m (Ints (set inv.cells i x)) (Ints inv.cells) inv.temporary.there;
+            there = changed_here v.blocks m (Ints inv.cells) (Ints (set inv.cells i x)) inv.temporary.there;
           };
           filled = filled_more whole n i inv.cells x within value inv.filled;
           clean = inv.clean;
@@ -192,15 +164,12 @@ module _ (functions : List Function) (final told : List ℕ) (arrays : List (Lis
     moves = λ i v z inv. record { cells = inv.cells; holds = inv.holds; temporary = inv.temporary; filled = inv.filled; clean = inv.clean };
   }
 
-  fill_passes : Passes fill_body
-  fill_passes = passes_row _ _ (passes_both (value_code sum) (store_row (length arrays) ∷ []) (passes_value sum) (passes_row _ _ passes_none))
-
   -- from an empty temporary to the whole right side in it
   pub fill_does : n ≤ 2 ^ 24 → (cost : ℕ) (more : List Stmt) (rest : List CodeLine) (braces : List Brace) (v : Vars) → Filling arrays whole n m 0 v
-      → ((w : Vars) → Filling arrays whole n m n w → Good functions final cost told (at w (flats more ++ rest) braces))
-      → Good functions final (cost + n) told (at v (flats (fill line n (length arrays) sum ∷ more) ++ rest) braces)
+      → ((w : Vars) → Filling arrays whole n m n w → Good functions final cost written (at w (flats more ++ rest) braces))
+      → Good functions final (cost + n) written (at v (flats (fill line n (length arrays) sum ∷ more) ++ rest) braces)
   fill_does small cost more rest braces v inv go =
-      loop_does functions final told n fill_body (λ i w. Filling arrays whole n m i w) fill_round fill_passes small cost more rest braces v inv go
+      loop_does functions final written n fill_body (λ i w. Filling arrays whole n m i w) fill_round small cost more rest braces v inv go
 
 -- ---- the temporary into its variable
 
@@ -211,11 +180,11 @@ pub record Moving (arrays : List (List ℤ)) (xs : List ℤ) (n m t i : ℕ) (v 
   pub filled : Filled xs n i cells
   pub clean : v.pending ≡ []
 
-module _ (functions : List Function) (final told : List ℕ) (arrays : List (List ℤ)) (xs : List ℤ) (line n m t : ℕ) (size : length xs ≡ n) (target : t < length arrays) where
+module _ (functions : List Function) (final written : List ℕ) (arrays : List (List ℤ)) (xs : List ℤ) (line n m t : ℕ) (size : length xs ≡ n) (target : t < length arrays) where
   abbrev move_body : List Stmt
   move_body = at_line line ∷ set_row 0 (int.Cell (length arrays) (atom.Loop 1)) ∷ stmt.Row (row.Block (block.StoreInt t (atom.Loop 1) (atom.Int 0))) ∷ []
 
-  move_round : Round functions final told n move_body (λ i v. Moving arrays xs n m t i v)
+  move_round : Round functions final written n move_body (λ i v. Moving arrays xs n m t i v)
   move_round = record {
     does = λ cost i v rest braces within is inv go.
         let put = stmt.Row (row.Block (block.StoreInt t (atom.Loop 1) (atom.Int 0))) ∷ [] in
@@ -227,13 +196,13 @@ module _ (functions : List Function) (final told : List ℕ) (arrays : List (Lis
         let cells' = set inv.cells i y in
         let blocks = with_cells v.blocks t (Ints cells') in
         let here : t < length (set arrays t inv.cells) = subst (λ k. t < k) (sym (length-set arrays t inv.cells)) target in
-        row_before functions final told cost v u (row.Control (control.At line)) (set_row 0 (int.Cell (length arrays) (atom.Loop 1)) ∷ put) rest braces
+        row_before functions final written cost v u (row.Control (control.At line)) (set_row 0 (int.Cell (length arrays) (atom.Loop 1)) ∷ put) rest braces
         (step_line functions v (flats (set_row 0 (int.Cell (length arrays) (atom.Loop 1)) ∷ put) ++ rest) braces line)
-        (row_before functions final told cost u w (row.Int 0 (int.Cell (length arrays) (atom.Loop 1))) put rest braces
+        (row_before functions final written cost u w (row.Int 0 (int.Cell (length arrays) (atom.Loop 1))) put rest braces
         (step_cell functions u (flats put ++ rest) braces 0 (length arrays) (atom.Loop 1) xs x
         (ints_there v.blocks v.references (length arrays) m xs inv.temporary.named inv.temporary.there)
         (cell_there xs (number_at v.indices 1) i is (subst (λ k. i < k) (sym size) within)))
-        (row_before functions final told cost w (record w { blocks = blocks }) (row.Block (block.StoreInt t (atom.Loop 1) (atom.Int 0))) [] rest braces
+        (row_before functions final written cost w (record w { blocks = blocks }) (row.Block (block.StoreInt t (atom.Loop 1) (atom.Int 0))) [] rest braces
         (step_store functions w rest braces t (atom.Loop 1) (atom.Int 0) blocks
         (store_there v.blocks v.references t t i inv.cells (number_at v.indices 1) y (inv.holds.named t here)
         (inv.holds.cells t here ∙ ap (λ (c : List ℤ). Some (Ints c)) (get_or-set_same arrays t inv.cells [] target)) is
@@ -244,7 +213,7 @@ module _ (functions : List Function) (final told : List ℕ) (arrays : List (Lis
           temporary = record {
             beside = inv.temporary.beside;
             named = inv.temporary.named;
-            there = changed_other v.blocks t m (Ints cells') (let apart : t ≢ m = omega (arith, inv.temporary.beside) in apart) ∙ inv.temporary.there;
+            there = changed_elsewhere v.blocks t m (Ints cells') (let apart : t ≢ m = omega (arith, inv.temporary.beside) in apart) ∙ inv.temporary.there;
           };
           filled = filled_more xs n i inv.cells y within same inv.filled;
           clean = inv.clean;
@@ -252,14 +221,11 @@ module _ (functions : List Function) (final told : List ℕ) (arrays : List (Lis
     moves = λ i v z inv. record { cells = inv.cells; holds = inv.holds; temporary = inv.temporary; filled = inv.filled; clean = inv.clean };
   }
 
-  move_passes : Passes move_body
-  move_passes = passes_row _ _ (passes_row _ _ (passes_row _ _ passes_none))
-
   pub move_does : n ≤ 2 ^ 24 → (cost : ℕ) (more : List Stmt) (rest : List CodeLine) (braces : List Brace) (v : Vars) → Moving arrays xs n m t 0 v
-      → ((w : Vars) → Moving arrays xs n m t n w → Good functions final cost told (at w (flats more ++ rest) braces))
-      → Good functions final (cost + n) told (at v (flats (move line n (length arrays) t ∷ more) ++ rest) braces)
+      → ((w : Vars) → Moving arrays xs n m t n w → Good functions final cost written (at w (flats more ++ rest) braces))
+      → Good functions final (cost + n) written (at v (flats (move line n (length arrays) t ∷ more) ++ rest) braces)
   move_does small cost more rest braces v inv go =
-      loop_does functions final told n move_body (λ i w. Moving arrays xs n m t i w) move_round move_passes small cost more rest braces v inv go
+      loop_does functions final written n move_body (λ i w. Moving arrays xs n m t i w) move_round small cost more rest braces v inv go
 
 -- ---- the temporary is freed
 
@@ -267,18 +233,18 @@ module _ (functions : List Function) (final told : List ℕ) (arrays : List (Lis
 holds_without : (arrays : List (List ℤ)) (blocks : List Block) (references : List (Option ℕ)) (made m : ℕ) → length arrays ≤ m
     → Holds arrays blocks references made → Holds arrays (without blocks m) references made
 holds_without arrays blocks references made m far h = record {
-  cells = λ p within. let ne : m ≢ p = omega arith in without_other blocks m p ne ∙ h.cells p within;
+  cells = λ p within. let ne : m ≢ p = omega arith in freed_elsewhere blocks m p ne ∙ h.cells p within;
   named = h.named;
   fewer = h.fewer;
 }
 
-pub free_does : (functions : List Function) (final told : List ℕ) (all : List (List ℤ)) (b m : ℕ) (xs : List ℤ) → length all ≤ m → (cost : ℕ) (more : List Stmt) (rest : List CodeLine) (braces : List Brace) (v : Vars)
+pub free_does : (functions : List Function) (final written : List ℕ) (all : List (List ℤ)) (b m : ℕ) (xs : List ℤ) → length all ≤ m → (cost : ℕ) (more : List Stmt) (rest : List CodeLine) (braces : List Brace) (v : Vars)
     → block_at v.references b ≡ Some m → cells_numbered v.blocks m ≡ Some (Ints xs) → Holds all v.blocks v.references v.made
-    → ((w : Vars) → Holds all w.blocks w.references w.made → w.pending ≡ v.pending → Good functions final cost told (at w (flats more ++ rest) braces))
-    → Good functions final cost told (at v (flats (free b ∷ more) ++ rest) braces)
-free_does functions final told all b m xs far cost more rest braces v named there holds go =
+    → ((w : Vars) → Holds all w.blocks w.references w.made → w.pending ≡ v.pending → Good functions final cost written (at w (flats more ++ rest) braces))
+    → Good functions final cost written (at v (flats (free b ∷ more) ++ rest) braces)
+free_does functions final written all b m xs far cost more rest braces v named there holds go =
     let w : Vars = record v { blocks = without v.blocks m } in
-    row_before functions final told cost v w (row.Block (block.Free (reference.Ints b))) more rest braces
+    row_before functions final written cost v w (row.Block (block.Free (reference.Ints b))) more rest braces
     (step_free functions v (flats more ++ rest) braces b m (Ints xs) named there)
     (go w (holds_without all v.blocks v.references v.made m far holds) refl)
 
@@ -288,7 +254,7 @@ pub record Showing (arrays : List (List ℤ)) (before : List Scalar) (p i : ℕ)
   pub holds : Holds arrays v.blocks v.references v.made
   pub shown : v.pending ≡ before ++ map scalar.Int (take i (array_at arrays p))
 
-module _ (functions : List Function) (final told : List ℕ) (arrays : List (List ℤ)) (before : List Scalar) (line n p : ℕ) (size : length (array_at arrays p) ≡ n) (here : p < length arrays)
+module _ (functions : List Function) (final written : List ℕ) (arrays : List (List ℤ)) (before : List Scalar) (line n p : ℕ) (size : length (array_at arrays p) ≡ n) (here : p < length arrays)
     (ints : (i : ℕ) → IsInt (number_at (array_at arrays p) i)) where
   abbrev show_body : List Stmt
   show_body = at_line line ∷ set_row 0 (int.Cell p (atom.Loop 1)) ∷ stmt.Row (row.Record (record_row.PutInt (atom.Int 0))) ∷ []
@@ -296,7 +262,7 @@ module _ (functions : List Function) (final told : List ℕ) (arrays : List (Lis
   one_more : (xs : List ℤ) (i : ℕ) → i < length xs → map scalar.Int (take (suc i) xs) ≡ map scalar.Int (take i xs) ++ scalar.Int (number_at xs i) ∷ []
   one_more xs i h = ap (λ (ys : List ℤ). map scalar.Int ys) (take-suc xs i (pos 0) h) ∙ map-append scalar.Int (take i xs) (number_at xs i ∷ [])
 
-  show_round : Round functions final told n show_body (λ i v. Showing arrays before p i v)
+  show_round : Round functions final written n show_body (λ i v. Showing arrays before p i v)
   show_round = record {
     does = λ cost i v rest braces within is inv go.
         let put = stmt.Row (row.Record (record_row.PutInt (atom.Int 0))) ∷ [] in
@@ -307,13 +273,13 @@ module _ (functions : List Function) (final told : List ℕ) (arrays : List (Lis
         let same : wrapped y ≡ x = ap wrapped (with_at_same (pos 0) v.ints 0 x) ∙ (ints i).kept in
         let pending = v.pending ++ scalar.Int (wrapped y) ∷ [] in
         let inside : i < length (array_at arrays p) = subst (λ k. i < k) (sym size) within in
-        row_before functions final told cost v u (row.Control (control.At line)) (set_row 0 (int.Cell p (atom.Loop 1)) ∷ put) rest braces
+        row_before functions final written cost v u (row.Control (control.At line)) (set_row 0 (int.Cell p (atom.Loop 1)) ∷ put) rest braces
         (step_line functions v (flats (set_row 0 (int.Cell p (atom.Loop 1)) ∷ put) ++ rest) braces line)
-        (row_before functions final told cost u w (row.Int 0 (int.Cell p (atom.Loop 1))) put rest braces
+        (row_before functions final written cost u w (row.Int 0 (int.Cell p (atom.Loop 1))) put rest braces
         (step_cell functions u (flats put ++ rest) braces 0 p (atom.Loop 1) (array_at arrays p) x
         (ints_there v.blocks v.references p p (array_at arrays p) (inv.holds.named p here) (inv.holds.cells p here))
         (cell_there (array_at arrays p) (number_at v.indices 1) i is inside))
-        (row_before functions final told cost w (record w { pending = pending }) (row.Record (record_row.PutInt (atom.Int 0))) [] rest braces
+        (row_before functions final written cost w (record w { pending = pending }) (row.Record (record_row.PutInt (atom.Int 0))) [] rest braces
         (step_put functions w rest braces (atom.Int 0))
         (go (record w { pending = pending }) is (record {
           holds = inv.holds;
@@ -324,11 +290,8 @@ module _ (functions : List Function) (final told : List ℕ) (arrays : List (Lis
     moves = λ i v z inv. record { holds = inv.holds; shown = inv.shown };
   }
 
-  show_passes : Passes show_body
-  show_passes = passes_row _ _ (passes_row _ _ (passes_row _ _ passes_none))
-
   pub show_does : n ≤ 2 ^ 24 → (cost : ℕ) (more : List Stmt) (rest : List CodeLine) (braces : List Brace) (v : Vars) → Showing arrays before p 0 v
-      → ((w : Vars) → Showing arrays before p n w → Good functions final cost told (at w (flats more ++ rest) braces))
-      → Good functions final (cost + n) told (at v (flats (show line n p ∷ more) ++ rest) braces)
+      → ((w : Vars) → Showing arrays before p n w → Good functions final cost written (at w (flats more ++ rest) braces))
+      → Good functions final (cost + n) written (at v (flats (show line n p ∷ more) ++ rest) braces)
   show_does small cost more rest braces v inv go =
-      loop_does functions final told n show_body (λ i w. Showing arrays before p i w) show_round show_passes small cost more rest braces v inv go
+      loop_does functions final written n show_body (λ i w. Showing arrays before p i w) show_round small cost more rest braces v inv go

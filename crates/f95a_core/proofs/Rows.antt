@@ -1,11 +1,14 @@
--- One step of the machine for each row that is written.
+-- One step of the machine for each row that is written, by the laws of LoopC.
 use Rattle.std.proofs.Common.{◌≡◌, ℕ, ◌+◌, Bool, true, false, List, [], ◌∷◌, ◌++◌, Option, Some, None, Result, Ok, Err, refl, ap, ◌∙◌, ℤ, pos, nat_le}
-use Rattle.std.specs.Prelude.{replicate, if◌then◌else◌, ◌+ℤ◌, ◌-ℤ◌, ◌*ℤ◌, int_lt}
+use Rattle.std.specs.Prelude.{replicate, if◌then◌else◌, ◌+ℤ◌, ◌-ℤ◌, ◌*ℤ◌}
 use Rattle.std.specs.Int.{w64, int_wrap}
 use Rattle.a95_base.specs.declared.scalar.Scalar.{Scalar}
 use Rattle.a95_base.specs.declared.scalar.Scalar.TheVariants as scalar
 use Rattle.a95_base.specs.Integer.{wrapped}
+use Rattle.a95_base.specs.Outcome.{Ended}
 use Rattle.a95_base.specs.Record.{record_text}
+use Rattle.loop_tree.specs.declared.stuck.StuckState.{StuckState}
+use Rattle.loop_tree.specs.declared.stuck.StuckState.TheVariants as stuck
 use Rattle.loop_tree.specs.declared.atom.Atom.{Atom}
 use Rattle.loop_tree.specs.declared.atom.Atom.TheVariants as atom
 use Rattle.loop_tree.specs.declared.atom.Operator.TheVariants as operator
@@ -18,9 +21,12 @@ use Rattle.loop_tree.specs.declared.row.RecordRow.TheVariants as record_row
 use Rattle.loop_tree.specs.declared.tree.CodeLine.{CodeLine}
 use Rattle.loop_tree.specs.declared.tree.CodeLine.TheVariants as code
 use Rattle.loop_tree.specs.declared.tree.Function.{Function}
-use Rattle.loop_tree.specs.State.{Brace, Upward, Cells, Ints, Block, State, Ended, Goes, Ends, with_at, cells_at, cells_numbered, cells_or_stuck, without}
-use Rattle.loop_tree.specs.Values.{number_at, block_at, atom_in, and_then, ints_at, int_cell, int_value, operation, largest}
-use Rattle.loop_tree.specs.Machine.{step, step_at, do_line, row_line, int_line, block_line, control_line, at_line, record_line, put_line, new_ints_line, change_line, free_line, freed, given, store_int, changed, for_up_line, close_line, leave, behind, quiet, turn}
+use Rattle.loop_tree.specs.State.{Brace, Cells, Ints, Block, State, Comes, Goes, Ends, with_at, cells_at, cells_numbered, cells_or_stuck, without}
+use Rattle.loop_tree.specs.Values.{block_at, atom_in, and_then, ints_at, int_cell, int_value, operation, largest}
+use Rattle.loop_tree.specs.Machine.{step, freed, given, store_int, changed}
+use Rattle.loop_laws.specs.At as layer
+use Rattle.loop_laws.specs.At.{Variables}
+use Rattle.loop_laws.proofs.Rows as laws
 
 -- what changes in a run of a program of one function, but for the lines that come next and the open braces
 pub record Vars : Type 0 where
@@ -33,25 +39,25 @@ pub record Vars : Type 0 where
   pub pending : List Scalar
   pub input : List ℕ
 
-abbrev pub at : Vars → List CodeLine → List Brace → State
-at v rest braces = record {
-  now = record {
-    rest = rest;
-    braces = braces;
-    ints = v.ints;
-    indices = v.indices;
-    texts = [];
-    int_blocks = v.references;
-    text_blocks = [];
-    line = v.line;
-    mark = 0;
-  };
+-- it has no texts, and no call is active
+abbrev pub full : Vars → Variables
+full v = record {
+  ints = v.ints;
+  indices = v.indices;
+  texts = [];
+  int_blocks = v.references;
+  text_blocks = [];
+  line = v.line;
+  mark = 0;
   callers = [];
   blocks = v.blocks;
   made = v.made;
   pending = v.pending;
   input = v.input;
 }
+
+abbrev pub at : Vars → List CodeLine → List Brace → State
+at v rest braces = layer.at (full v) rest braces
 
 abbrev pub with_int : Vars → ℕ → ℤ → Vars
 with_int v n z = record v { ints = with_at (pos 0) v.ints n z }
@@ -61,39 +67,39 @@ with_index v z = record v { indices = with_at (pos 0) v.indices 1 z }
 
 module _ (functions : List Function) (v : Vars) (rest : List CodeLine) (braces : List Brace) where
   pub step_atom : (n : ℕ) (a : Atom) → step functions (at v (code.Row (row.Int n (int.Atom a)) ∷ rest) braces) ≡ Goes false [] (at (with_int v n (atom_in v.ints v.indices a)) rest braces)
-  unfolding step step_at do_line row_line int_line int_value
-  step_atom n a = refl
+  unfolding int_value
+  step_atom n a = laws.step_int n (int.Atom a) functions (full v) rest braces
 
   pub step_wrap : (n : ℕ) (a : Atom) → step functions (at v (code.Row (row.Int n (int.Wrap a)) ∷ rest) braces) ≡ Goes false [] (at (with_int v n (wrapped (atom_in v.ints v.indices a))) rest braces)
-  unfolding step step_at do_line row_line int_line int_value
-  step_wrap n a = refl
+  unfolding int_value
+  step_wrap n a = laws.step_int n (int.Wrap a) functions (full v) rest braces
 
   pub step_multiply : (n : ℕ) (a b : Atom) → step functions (at v (code.Row (row.Int n (int.Operation a operator.Multiply b)) ∷ rest) braces)
       ≡ Goes false [] (at (with_int v n (int_wrap w64 (atom_in v.ints v.indices a *ℤ atom_in v.ints v.indices b))) rest braces)
-  unfolding step step_at do_line row_line int_line int_value operation
-  step_multiply n a b = refl
+  unfolding int_value operation
+  step_multiply n a b = laws.step_int n (int.Operation a operator.Multiply b) functions (full v) rest braces
 
   pub step_add : (n : ℕ) (a b : Atom) → step functions (at v (code.Row (row.Int n (int.Operation a operator.Add b)) ∷ rest) braces)
       ≡ Goes false [] (at (with_int v n (int_wrap w64 (atom_in v.ints v.indices a +ℤ atom_in v.ints v.indices b))) rest braces)
-  unfolding step step_at do_line row_line int_line int_value operation
-  step_add n a b = refl
+  unfolding int_value operation
+  step_add n a b = laws.step_int n (int.Operation a operator.Add b) functions (full v) rest braces
 
   pub step_subtract : (n : ℕ) (a b : Atom) → step functions (at v (code.Row (row.Int n (int.Operation a operator.Subtract b)) ∷ rest) braces)
       ≡ Goes false [] (at (with_int v n (int_wrap w64 (atom_in v.ints v.indices a -ℤ atom_in v.ints v.indices b))) rest braces)
-  unfolding step step_at do_line row_line int_line int_value operation
-  step_subtract n a b = refl
+  unfolding int_value operation
+  step_subtract n a b = laws.step_int n (int.Operation a operator.Subtract b) functions (full v) rest braces
 
   -- the value of a cell
   pub step_cell : (n b : ℕ) (a : Atom) (cells : List ℤ) (z : ℤ) → ints_at v.blocks (block_at v.references b) ≡ Ok cells → int_cell cells (atom_in v.ints v.indices a) ≡ Ok z
       → step functions (at v (code.Row (row.Int n (int.Cell b a)) ∷ rest) braces) ≡ Goes false [] (at (with_int v n z) rest braces)
-  unfolding step step_at do_line row_line int_line int_value
+  unfolding int_value
   step_cell n b a cells z there value =
-      ap (λ (r : Result (List ℤ) ℕ). given (and_then r (λ c. int_cell c (atom_in v.ints v.indices a))) (λ x. at (with_int v n x) rest braces)) there
-      ∙ ap (λ (r : Result ℤ ℕ). given r (λ x. at (with_int v n x) rest braces)) value
+      laws.step_int n (int.Cell b a) functions (full v) rest braces
+      ∙ ap (λ (r : Result (List ℤ) StuckState). given (and_then r (λ c. int_cell c (atom_in v.ints v.indices a))) (λ x. at (with_int v n x) rest braces)) there
+      ∙ ap (λ (r : Result ℤ StuckState). given r (λ x. at (with_int v n x) rest braces)) value
 
   pub step_line : (n : ℕ) → step functions (at v (code.Row (row.Control (control.At n)) ∷ rest) braces) ≡ Goes false [] (at (record v { line = n }) rest braces)
-  unfolding step step_at do_line row_line control_line at_line
-  step_line n = refl
+  step_line n = laws.step_source_line n functions (full v) rest braces
 
   abbrev pub with_block : ℕ → ℕ → Vars
   with_block b n = record v {
@@ -103,55 +109,36 @@ module _ (functions : List Function) (v : Vars) (rest : List CodeLine) (braces :
   }
 
   pub step_new : (b n : ℕ) → nat_le n largest ≡ true → step functions (at v (code.Row (row.Block (block.New b (atom.Number (pos n)))) ∷ rest) braces) ≡ Goes false [] (at (with_block b n) rest braces)
-  unfolding step step_at do_line row_line block_line new_ints_line
-  step_new b n small = ap (λ (t : Bool). given (and_then (if t then Ok n else Err 5) (λ m. Ok (Ints (replicate m (pos 0)))))
+  step_new b n small = laws.step_new b (atom.Number (pos n)) functions (full v) rest braces
+      ∙ ap (λ (t : Bool). given (and_then (if t then Ok n else Err stuck.BlockSize) (λ m. Ok (Ints (replicate m (pos 0)))))
       (λ cells. at (record v { references = with_at None v.references b (Some v.made); blocks = record { number = v.made; cells = cells } ∷ v.blocks; made = v.made + 1 }) rest braces)) small
 
   pub step_temp : (b n : ℕ) → nat_le n largest ≡ true → step functions (at v (code.Row (row.Block (block.Temp b (atom.Number (pos n)))) ∷ rest) braces) ≡ Goes false [] (at (with_block b n) rest braces)
-  unfolding step step_at do_line row_line block_line new_ints_line
-  step_temp b n small = ap (λ (t : Bool). given (and_then (if t then Ok n else Err 5) (λ m. Ok (Ints (replicate m (pos 0)))))
+  step_temp b n small = laws.step_temp b (atom.Number (pos n)) functions (full v) rest braces
+      ∙ ap (λ (t : Bool). given (and_then (if t then Ok n else Err stuck.BlockSize) (λ m. Ok (Ints (replicate m (pos 0)))))
       (λ cells. at (record v { references = with_at None v.references b (Some v.made); blocks = record { number = v.made; cells = cells } ∷ v.blocks; made = v.made + 1 }) rest braces)) small
 
   -- a store into the block of a reference
   pub step_store : (b : ℕ) (i a : Atom) (blocks : List Block) → changed v.blocks (block_at v.references b) (store_int (atom_in v.ints v.indices i) (atom_in v.ints v.indices a)) ≡ Ok blocks
       → step functions (at v (code.Row (row.Block (block.StoreInt b i a)) ∷ rest) braces) ≡ Goes false [] (at (record v { blocks = blocks }) rest braces)
-  unfolding step step_at do_line row_line block_line change_line
-  step_store b i a blocks there = ap (λ (r : Result (List Block) ℕ). given r (λ bs. at (record v { blocks = bs }) rest braces)) there
+  step_store b i a blocks there = laws.step_store_int b i a functions (full v) rest braces
+      ∙ ap (λ (r : Result (List Block) StuckState). given r (λ bs. at (record v { blocks = bs }) rest braces)) there
 
   -- a living block is freed
   pub step_free : (b m : ℕ) (cells : Cells) → block_at v.references b ≡ Some m → cells_numbered v.blocks m ≡ Some cells
       → step functions (at v (code.Row (row.Block (block.Free (reference.Ints b))) ∷ rest) braces) ≡ Goes false [] (at (record v { blocks = without v.blocks m }) rest braces)
-  unfolding step step_at do_line row_line block_line free_line
   step_free b m cells named there =
-      ap (λ (r : Option ℕ). given (cells_at v.blocks r) (λ (c : Cells). at (record v { blocks = freed v.blocks r }) rest braces)) named
+      laws.step_free (reference.Ints b) functions (full v) rest braces
+      ∙ ap (λ (r : Option ℕ). given (cells_at v.blocks r) (λ (c : Cells). at (record v { blocks = freed v.blocks r }) rest braces)) named
       ∙ ap (λ (o : Option Cells). given (cells_or_stuck o) (λ (c : Cells). at (record v { blocks = without v.blocks m }) rest braces)) there
 
   pub step_put : (a : Atom) → step functions (at v (code.Row (row.Record (record_row.PutInt a)) ∷ rest) braces)
       ≡ Goes false [] (at (record v { pending = v.pending ++ scalar.Int (wrapped (atom_in v.ints v.indices a)) ∷ [] }) rest braces)
-  unfolding step step_at do_line row_line record_line put_line
-  step_put a = refl
+  step_put a = laws.step_put_int a functions (full v) rest braces
 
   pub step_write : step functions (at v (code.Row (row.Record record_row.Write) ∷ rest) braces) ≡ Goes false (record_text v.pending ++ 10 ∷ []) (at (record v { pending = [] }) rest braces)
-  unfolding step step_at do_line row_line record_line
-  step_write = refl
-
-  -- the head of a loop over 0, 1, .., n - 1
-  pub step_up : (n : ℕ) → step functions (at v (code.ForUp 1 (atom.Number (pos n)) ∷ rest) braces)
-      ≡ (if int_lt (number_at (with_at (pos 0) v.indices 1 (pos 0)) 1) (pos n)
-      then turn (at (with_index v (pos 0)) rest (Upward 1 (atom.Number (pos n)) rest ∷ braces))
-      else quiet (at (with_index v (pos 0)) (behind rest) braces))
-  unfolding step step_at do_line for_up_line
-  step_up n = refl
-
-  -- its closing brace
-  pub step_close : (n : ℕ) (body : List CodeLine) → step functions (at v (code.Close ∷ rest) (Upward 1 (atom.Number (pos n)) body ∷ braces))
-      ≡ (if int_lt (number_at (with_at (pos 0) v.indices 1 (int_wrap w64 (number_at v.indices 1 +ℤ pos 1))) 1) (pos n)
-      then turn (at (with_index v (int_wrap w64 (number_at v.indices 1 +ℤ pos 1))) body (Upward 1 (atom.Number (pos n)) body ∷ braces))
-      else quiet (at (with_index v (int_wrap w64 (number_at v.indices 1 +ℤ pos 1))) rest braces))
-  unfolding step step_at do_line close_line
-  step_close n body = refl
+  step_write = laws.step_write functions (full v) rest braces
 
   -- the end of the program
-  pub step_end : step functions (at v (code.Close ∷ rest) []) ≡ Ends Ended
-  unfolding step step_at do_line close_line leave
-  step_end = refl
+  pub step_end : step functions (at v (code.Close ∷ rest) []) ≡ Ends (Comes Ended)
+  step_end = laws.step_last_brace functions (full v) rest

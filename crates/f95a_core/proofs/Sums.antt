@@ -11,6 +11,7 @@ use Rattle.rank_one.specs.declared.unit.Term.{Term}
 use Rattle.rank_one.specs.declared.unit.Factor.{Factor}
 use Rattle.rank_one.specs.declared.unit.Factor.TheVariants as factor
 use Rattle.rank_one.specs.Meaning.{array_at, added}
+use Rattle.loop_tree.specs.declared.stuck.StuckState.TheVariants as stuck
 use Rattle.loop_tree.specs.declared.atom.Atom.{Atom}
 use Rattle.loop_tree.specs.declared.atom.Atom.TheVariants as atom
 use Rattle.loop_tree.specs.declared.atom.Operator.{Operator}
@@ -27,10 +28,10 @@ use Rattle.loop_tree.specs.State.{Brace, Cells, Ints, Block, Goes, with_at, cell
 use Rattle.loop_tree.specs.Values.{number_at, block_at, atom_in, and_then, ints_at, ints_of, int_cell}
 use Rattle.loop_tree.specs.Machine.{step}
 use Rattle.f95a_core.specs.Lowered.{set_row, load, factor_atom, times, product_code, product_atom, term_code, term_atom, sign, plus, addends_code, addends_atom, sum_code, sum_atom, is_factor, value_code, value_atom}
-use Rattle.f95a_core.proofs.Flat.{first_row, split}
+use Rattle.loop_laws.proofs.Braces.{first_row, split}
 use Rattle.f95a_core.proofs.Reaching.{Good, silent}
 use Rattle.f95a_core.proofs.Rows.{Vars, at, step_wrap, step_multiply, step_add, step_subtract, step_cell}
-use Rattle.f95a_core.proofs.Cells.{with_at_same, with_at_other}
+use Rattle.loop_laws.proofs.Numbered.{with_at_same, with_at_other}
 
 -- ---- the element of a right side at a place
 
@@ -102,16 +103,16 @@ ints_there blocks references b n cells named there =
 pub cell_there : (cells : List ℤ) (z : ℤ) (i : ℕ) → z ≡ pos i → i < length cells → int_cell cells z ≡ Ok (number_at cells i)
 cell_there cells z i e h =
     let within : nat_lt i (length cells) ≡ true = grind (arith, nat_tests) in
-    ap (int_cell cells) e ∙ ap (λ (t : Bool). and_then (if t then Ok i else Err 1) (λ p. Ok (number_at cells p))) within
+    ap (int_cell cells) e ∙ ap (λ (t : Bool). and_then (if t then Ok i else Err stuck.OutsideBlock) (λ p. Ok (number_at cells p))) within
 
-module _ (functions : List Function) (final told : List ℕ) (cost : ℕ) where
+module _ (functions : List Function) (final written : List ℕ) (cost : ℕ) where
   -- one row in front
   pub row_goes : (v w : Vars) (n : ℕ) (value : IntValue) (more : List Stmt) (rest : List CodeLine) (braces : List Brace)
       → step functions (at v (code.Row (row.Int n value) ∷ (flats more ++ rest)) braces) ≡ Goes false [] (at w (flats more ++ rest) braces)
-      → Good functions final cost told (at w (flats more ++ rest) braces) → Good functions final cost told (at v (flats (set_row n value ∷ more) ++ rest) braces)
+      → Good functions final cost written (at w (flats more ++ rest) braces) → Good functions final cost written (at v (flats (set_row n value ∷ more) ++ rest) braces)
   row_goes v w n value more rest braces e g =
-      subst (λ (ls : List CodeLine). Good functions final cost told (at v ls braces)) (sym (first_row (row.Int n value) more rest))
-      (silent functions final cost told (at v (code.Row (row.Int n value) ∷ (flats more ++ rest)) braces) (at w (flats more ++ rest) braces) e g)
+      subst (λ (ls : List CodeLine). Good functions final cost written (at v ls braces)) (sym (first_row (row.Int n value) more rest))
+      (silent functions final cost written (at v (code.Row (row.Int n value) ∷ (flats more ++ rest)) braces) (at w (flats more ++ rest) braces) e g)
 
   module _ (arrays : List (List ℤ)) (i : ℕ) (v : Vars) (holds : Holds arrays v.blocks v.references v.made) (is : number_at v.indices 1 ≡ pos i) (braces : List Brace) where
     abbrev with_ints : List ℤ → Vars
@@ -119,7 +120,7 @@ module _ (functions : List Function) (final told : List ℕ) (cost : ℕ) where
 
     -- from these integers on, the run is good
     abbrev Goes_on : List ℤ → List CodeLine → Type 0
-    Goes_on ints rest = Good functions final cost told (at (record v { ints = ints }) rest braces)
+    Goes_on ints rest = Good functions final cost written (at (record v { ints = ints }) rest braces)
 
     abbrev value_in : List ℤ → Atom → ℤ
     value_in ints a = atom_in ints v.indices a

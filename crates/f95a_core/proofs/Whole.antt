@@ -26,7 +26,7 @@ use Rattle.loop_tree.specs.Run.{start}
 use Rattle.f95a_core.specs.Lowered.{extent_of, declared_code, statements_code, program_of}
 use Rattle.f95a_core.proofs.Reaching.{Good}
 use Rattle.f95a_core.proofs.Rows.{Vars, at, step_line, step_new}
-use Rattle.f95a_core.proofs.Cells.{with_at_same, with_at_other, found_new, found_old}
+use Rattle.loop_laws.proofs.Numbered.{with_at_same, with_at_other, made_here, made_elsewhere}
 use Rattle.f95a_core.proofs.Sums.{Holds}
 use Rattle.f95a_core.proofs.Elements.{IsInt}
 use Rattle.f95a_core.proofs.Loops.{row_before}
@@ -47,11 +47,11 @@ holds_next done v n h e = record {
         → cells_numbered (record { number = v.made; cells = Ints (replicate n (pos 0)) } ∷ v.blocks) p ≡ Some (Ints (array_at (done ++ replicate n (pos 0) ∷ []) p))
     cells_by p (inl before) =
         let ne : v.made ≢ p = omega arith in
-        found_old v.made p (Ints (replicate n (pos 0))) v.blocks ne ∙ h.cells p before
+        made_elsewhere v.blocks v.made p (Ints (replicate n (pos 0))) ne ∙ h.cells p before
         ∙ ap (λ (c : List ℤ). Some (Ints c)) (sym (get_or_append_left done (replicate n (pos 0) ∷ []) [] p before))
     cells_by p (inr last) =
         ap (λ q. cells_numbered (record { number = v.made; cells = Ints (replicate n (pos 0)) } ∷ v.blocks) q) (last ∙ sym e)
-        ∙ found_new v.made (Ints (replicate n (pos 0))) v.blocks
+        ∙ made_here v.blocks v.made (Ints (replicate n (pos 0)))
         ∙ ap (λ (c : List ℤ). Some (Ints c)) (sym (ap (λ q. array_at (done ++ replicate n (pos 0) ∷ []) q) last ∙ get_or-append_seam done (replicate n (pos 0)) [] []))
 
     named_by : (p : ℕ) → (p < length done) ⊎ (p ≡ length done) → block_at (with_at None v.references (length done) (Some v.made)) p ≡ Some p
@@ -64,11 +64,11 @@ holds_next done v n h e = record {
 abbrev zeros_of : List Array → List (List ℤ)
 zeros_of decls = map (λ (a : Array). replicate a.extent (pos 0)) decls
 
-module _ (functions : List Function) (final told : List ℕ) (cost : ℕ) (more : List Stmt) (rest : List CodeLine) (braces : List Brace) where
+module _ (functions : List Function) (final written : List ℕ) (cost : ℕ) (more : List Stmt) (rest : List CodeLine) (braces : List Brace) where
   declared_go : (decls : List Array) → list_all (λ (a : Array). nat_le a.extent (2 ^ 24)) decls ≡ true → (done : List (List ℤ)) (number : ℕ) → number ≡ length done
       → (v : Vars) → Holds done v.blocks v.references v.made → v.made ≡ length done → v.pending ≡ []
-      → ((w : Vars) → Holds (done ++ zeros_of decls) w.blocks w.references w.made → w.pending ≡ [] → Good functions final cost told (at w (flats more ++ rest) braces))
-      → Good functions final cost told (at v (flats (declared_code number decls ++ more) ++ rest) braces)
+      → ((w : Vars) → Holds (done ++ zeros_of decls) w.blocks w.references w.made → w.pending ≡ [] → Good functions final cost written (at w (flats more ++ rest) braces))
+      → Good functions final cost written (at v (flats (declared_code number decls ++ more) ++ rest) braces)
   declared_go [] small done number at_number v holds count clean go =
       go v (subst (λ (arrays : List (List ℤ)). Holds arrays v.blocks v.references v.made) (sym (append-nil done)) holds) clean
   declared_go (a ∷ decls) small done number at_number v holds count clean go =
@@ -84,10 +84,10 @@ module _ (functions : List Function) (final told : List ℕ) (cost : ℕ) (more 
       let longer : length (done ++ z ∷ []) ≡ length done + 1 = omega (arith, length-append done (z ∷ [])) in
       let later = declared_code (length done + 1) decls ++ more in
       let make = stmt.Row (row.Block (block.New (length done) (atom.Number (pos n)))) in
-      subst (λ k. Good functions final cost told (at v (flats (declared_code k (a ∷ decls) ++ more) ++ rest) braces)) (sym at_number)
-      (row_before functions final told cost v u (row.Control (control.At a.line)) (make ∷ later) rest braces
+      subst (λ k. Good functions final cost written (at v (flats (declared_code k (a ∷ decls) ++ more) ++ rest) braces)) (sym at_number)
+      (row_before functions final written cost v u (row.Control (control.At a.line)) (make ∷ later) rest braces
       (step_line functions v (flats (make ∷ later) ++ rest) braces a.line)
-      (row_before functions final told cost u x (row.Block (block.New (length done) (atom.Number (pos n)))) later rest braces
+      (row_before functions final written cost u x (row.Block (block.New (length done) (atom.Number (pos n)))) later rest braces
       (step_new functions u (flats later ++ rest) braces (length done) n parts.0)
       (declared_go decls parts.1 (done ++ z ∷ []) (length done + 1) (sym longer) x (holds_next done u n holds count)
       (ap (λ k. k + 1) count ∙ sym longer) clean

@@ -1,29 +1,36 @@
 -- What is built and then run does what its source means.
 use Rattle.std.specs.Prelude.{◌≡◌, ℕ, ◌≤◌, List, length, Some}
+use Rattle.a95_base.specs.Outcome.{Outcome, Finished, Going, Stop, IsPrefix}
+use Rattle.loop_tree.specs.declared.stuck.StuckState.{StuckState}
+use Rattle.loop_tree.specs.State.{End, Comes, Stuck}
+use Rattle.loop_laws.specs.Follows.{DoesBackward}
+use Rattle.loop_text.specs.Refused.{IsToldAt}
 use Rattle.rank_one.specs.declared.unit.Unit.{Unit}
 use Rattle.rank_one.specs.Reading.{Reads}
-use Rattle.loop_tree.specs.State as machine
-use Rattle.loop_tree.specs.Run as run
-use Rattle.loop_tree.specs.RunLaws.{IsPrefix}
 use Rattle.f95a_core.specs.Building.{Builds}
-use Rattle.f95a_core.specs.Running.{Executes}
-use Rattle.f95a_core.specs.Follows.{Outcome, Ended, Faulted, Going, source_run, turn_bound, SourceDid}
+use Rattle.f95a_core.specs.Running.{job, Executes}
+use Rattle.f95a_core.specs.Source.{source_run, turn_bound}
 
 -- a source that ends or faults is run to the same end; while it goes on, the run has written at least what it has
-abbrev pub Reaches : Outcome → List ℕ → run.Outcome → Type 0
-Reaches (Ended written) said outcome = (said ≡ written) × (outcome ≡ run.Finished machine.Ended)
-Reaches (Faulted written kind line) said outcome = (said ≡ written) × (outcome ≡ run.Finished (machine.Faulted kind line))
-Reaches (Going written) said outcome = IsPrefix written said
+abbrev pub RunsForward : List ℕ → Outcome Stop → List ℕ → Outcome End → Type 0
+RunsForward wanted (Finished stop) written outcome = (written ≡ wanted) × (outcome ≡ Finished (Comes stop))
+RunsForward wanted Going written outcome = IsPrefix wanted written
 
 -- The run of a text on an input, within so many turns, against the unit of its source: what the run ends or faults with,
 -- the source does; while it goes on, what it wrote begins what the source writes; it is never stuck. And with as many turns
 -- as its bound asks for, it comes to what the source comes to.
-pub record DoesAsItsSource (source input : List ℕ) (turns : ℕ) (said : List ℕ) (outcome : run.Outcome) : Type 0 where
+pub record DoesAsItsSource (source input : List ℕ) (turns : ℕ) (written : List ℕ) (outcome : Outcome End) : Type 0 where
   pub unit : Unit
   pub reads : Reads source unit
-  pub did : SourceDid (source_run unit input turns) said outcome
-  pub reaches : (n : ℕ) → turn_bound (length source) n ≤ turns → Reaches (source_run unit input n) said outcome
+  pub backward : DoesBackward (source_run unit input turns) written outcome
+  pub never_stuck : (why : StuckState) → outcome ≡ Finished (Stuck why) → ⊥
+  pub forward : (n : ℕ) → turn_bound (length source) n ≤ turns → RunsForward (source_run unit input n).written (source_run unit input n).outcome written outcome
+
+-- a text of `build` is never refused, and every run of it does as its source
+pub record RunsAsMeant (source text : List ℕ) : Type 0 where
+  pub never_refused : (line : ℕ) → IsToldAt text line → ⊥
+  pub does : (input : List ℕ) (turns : ℕ) (written : List ℕ) (outcome : Outcome End) →
+      Executes (job (Some text) (Some input) turns) written outcome → DoesAsItsSource source input turns written outcome
 
 abbrev pub Headline : Type 0
-Headline = (source text input : List ℕ) (turns : ℕ) (said : List ℕ) (outcome : run.Outcome) →
-    Builds source text → Executes (record { file = Some text; input = Some input; turns = turns }) said outcome → DoesAsItsSource source input turns said outcome
+Headline = (source text : List ℕ) → Builds source text → RunsAsMeant source text

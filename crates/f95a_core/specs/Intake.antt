@@ -4,7 +4,7 @@ use Rattle.std.specs.Io.KnownBytes.{Consumes, IsAtEnd}
 use Rattle.io_edge.specs.Causes.{Rose}
 use Rattle.f95a_core.specs.declared.intake.IntakeFault.{IntakeFault}
 use Rattle.f95a_core.specs.declared.intake.IntakeFault.TheVariants as fault
-use Rattle.f95a_core.specs.Building.{IsTold}
+use Rattle.f95a_core.specs.Outside.{IsTold}
 
 -- the most bytes that an input may have
 abbrev pub input_limit : ℕ

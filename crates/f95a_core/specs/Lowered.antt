@@ -1,5 +1,5 @@
 -- The LoopC program of a typed unit: array p is block bp, and each right side goes into a temporary and then into its variable.
-use Rattle.std.specs.Prelude.{ℕ, pos, Bool, true, false, if◌then◌else◌, List, [], ◌∷◌, ◌++◌, map, length, ◌+◌}
+use Rattle.std.specs.Prelude.{◌≡◌, ℕ, pos, Bool, true, false, if◌then◌else◌, List, [], ◌∷◌, ◌++◌, map, length, ◌+◌}
 use Rattle.std.specs.List.{flat_map, slice_index_or}
 use Rattle.rank_one.specs.declared.unit.Unit.{Unit}
 use Rattle.rank_one.specs.declared.unit.Array.{Array}
@@ -11,6 +11,10 @@ use Rattle.rank_one.specs.declared.unit.Addend.{Addend}
 use Rattle.rank_one.specs.declared.unit.Term.{Term}
 use Rattle.rank_one.specs.declared.unit.Factor.{Factor}
 use Rattle.rank_one.specs.declared.unit.Factor.TheVariants as factor
+use Rattle.loop_tree.specs.Body.{Body}
+use Rattle.loop_writer.specs.declared.pieces.Piece.{Piece}
+use Rattle.loop_writer.specs.declared.pieces.Piece.TheVariants as piece
+use Rattle.f95a_core.specs.declared.lower.Lowering.{Lowering}
 use Rattle.loop_tree.specs.declared.atom.Atom.{Atom}
 use Rattle.loop_tree.specs.declared.atom.Atom.TheVariants as atom
 use Rattle.loop_tree.specs.declared.atom.Operator.{Operator}
@@ -151,3 +155,31 @@ unit_code unit = declared_code 0 unit.arrays ++ statements_code unit.arrays unit
 -- one function, without parameters
 abbrev pub program_of : Unit → List Function
 program_of unit = record { parameters = []; body = unit_code unit } ∷ []
+
+-- ---- the pieces of the program
+
+-- statements of a function's own body
+abbrev pub body_with : List Stmt → Body
+body_with code = record { statements = code; room = 999; in_loop = false }
+
+-- where statements were added, the others stay what they are
+abbrev pub IsSameBody : Body → Body → Type 0
+IsSameBody old new = (new.room ≡ old.room) × (new.in_loop ≡ old.in_loop)
+
+abbrev pub array_pieces : ℕ → List Array → List Piece
+array_pieces number [] = []
+array_pieces number (array ∷ arrays) = piece.Code (body_with (array_code number array)) ∷ array_pieces (number + 1) arrays
+
+abbrev pub statement_pieces : List Array → List Statement → List Piece
+statement_pieces arrays statements = map (λ (s : Statement). piece.Code (body_with (action_code arrays s.line s.action))) statements
+
+abbrev pub pieces_of : Unit → List Piece
+pieces_of unit = piece.Begin [] ∷ (array_pieces 0 unit.arrays ++ statement_pieces unit.arrays unit.statements)
+
+-- those that a lowering has still to give
+abbrev pub begun_or : Bool → List Piece → List Piece
+begun_or true pieces = pieces
+begun_or false pieces = piece.Begin [] ∷ pieces
+
+abbrev pub left_of : Lowering → List Piece
+left_of l = begun_or l.begun (array_pieces l.number l.undeclared.now ++ statement_pieces l.arrays.now l.statements.now)

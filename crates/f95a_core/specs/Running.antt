@@ -1,18 +1,20 @@
--- What `run` answers, and what it leaves on its output and in its input.
-use Rattle.std.specs.Prelude.{◌⊎◌, ℕ, ◌+◌, ◌≤◌, List, length, Option, ⊤}
+-- What `run` comes to, and what it leaves.
+use Rattle.std.specs.Prelude.{◌≡◌, ◌⊎◌, ℕ, ◌+◌, ◌≤◌, List, length, Option, Some, ⊤}
 use Rattle.std.specs.Io.KnownBytes.{Appends, Keeps, IsAtEnd}
-use Rattle.io_edge.specs.Known.{AppendsFront}
+use Rattle.io_edge.specs.Causes.{Rose}
+use Rattle.io_edge.specs.Known.{AppendsPrefix}
+use Rattle.a95_base.specs.Outcome.{Outcome, Finished, Going, Ended, Faulted}
 use Rattle.loop_tree.specs.declared.tree.Function.{Function}
-use Rattle.loop_tree.specs.State as machine
-use Rattle.loop_tree.specs.Run.{start, Outcome, Finished, Going, Mach}
+use Rattle.loop_tree.specs.State.{End, Comes, Stuck}
+use Rattle.loop_tree.specs.Run.{Mach}
 use Rattle.loop_tree.specs.Program.{ReadsText}
 use Rattle.loop_text.specs.Refused.{IsToldAt}
-use Rattle.loop_machine.specs.declared.end.End.{End}
-use Rattle.loop_machine.specs.declared.end.End.TheVariants as end
-use Rattle.loop_machine.specs.Running.{Tells}
+use Rattle.loop_machine.specs.declared.end.End as end
+use Rattle.loop_machine.specs.declared.end.End.TheVariants as ends
 use Rattle.f95a_core.specs.declared.status.Status.{Status}
 use Rattle.f95a_core.specs.declared.status.Status.TheVariants as status
-use Rattle.f95a_core.specs.Building.{IsTold}
+use Rattle.f95a_core.specs.Outside.{Files, Stream, IsTold, Told, NoLoadFailed, LoadFailed, Unwritten}
+use Rattle.f95a_core.specs.Answers.{IsFailure}
 use Rattle.f95a_core.specs.Intake.{input_limit, Takes, TakesAtMost, IsTooLong}
 
 -- what a run is of: the bytes of the file and those of the input, where they are told, and the turns
@@ -24,8 +26,13 @@ pub record Job : Type 0 where
 abbrev pub job : Option (List ℕ) → Option (List ℕ) → ℕ → Job
 job file input turns = record { file = file; input = input; turns = turns }
 
+-- the bytes are the text of a program, or of none
+pub record IsText (bytes : List ℕ) : Type 0 where
+  pub program : List Function
+  pub reads : ReadsText bytes program
+
 -- the file is the text of a program, and on all of the input it writes this and comes to this outcome
-pub record Executes (job : Job) (said : List ℕ) (outcome : Outcome) : Type 0 where
+pub record Executes (job : Job) (written : List ℕ) (outcome : Outcome End) : Type 0 where
   pub text : List ℕ
   pub file : IsTold job.file text
   pub program : List Function
@@ -33,73 +40,76 @@ pub record Executes (job : Job) (said : List ℕ) (outcome : Outcome) : Type 0 w
   pub input : List ℕ
   pub held : IsTold job.input input
   pub short : length input ≤ input_limit
-  pub runs : Mach program input job.turns said outcome
+  pub runs : Mach program input job.turns written outcome
 
--- the whole of it was written, or a front
-pub record WritesRun (job : Job) (outcome : Outcome) (old new : Option (List ℕ)) : Type 0 where
-  pub said : List ℕ
-  pub executes : Executes job said outcome
-  pub appended : Appends old new said
+-- all of the input was taken, and what the run writes was written
+pub record WritesRun (job : Job) (outcome : Outcome End) (input out out' : Stream) : Type 0 where
+  pub written : List ℕ
+  pub executes : Executes job written outcome
+  pub taken : IsAtEnd input.bytes
+  pub appended : Appends out.bytes out'.bytes written
 
-pub record WritesFrontOfRun (job : Job) (old new : Option (List ℕ)) : Type 0 where
-  pub said : List ℕ
-  pub outcome : Outcome
-  pub executes : Executes job said outcome
-  pub appended : AppendsFront old new said
+-- the same of a prefix
+pub record WritesPrefixOfRun (job : Job) (input out out' : Stream) : Type 0 where
+  pub written : List ℕ
+  pub outcome : Outcome End
+  pub executes : Executes job written outcome
+  pub taken : IsAtEnd input.bytes
+  pub appended : AppendsPrefix out.bytes out'.bytes written
 
--- the file is the text of no program
-pub record IsNoText (job : Job) (line : ℕ) : Type 0 where
-  pub text : List ℕ
-  pub file : IsTold job.file text
-  pub refused : IsToldAt text line
+-- the status of an outcome
+abbrev pub status_of : Outcome End → Status
+status_of (Finished (Comes Ended)) = status.Done
+status_of (Finished (Comes (Faulted kind line))) = status.Fault kind (record { 0 = line })
+status_of (Finished (Stuck why)) = status.Stuck why
+status_of Going = status.TurnLimit
 
--- each status of a run, with its cause and what was written
-abbrev pub RunComesTo : Status → Job → Option (List ℕ) → Option (List ℕ) → Type 0
-RunComesTo status.Done job old new = WritesRun job (Finished machine.Ended) old new
-RunComesTo (status.Fault kind line) job old new = WritesRun job (Finished (machine.Faulted kind line.0)) old new
-RunComesTo (status.Stuck why) job old new = WritesRun job (Finished (machine.Stuck why)) old new
-RunComesTo status.TurnLimit job old new = WritesRun job Going old new
-RunComesTo (status.TextRefused line) job old new = IsNoText job line.0 × Keeps old new
-RunComesTo status.InputTooLong job old new = IsTooLong job.input × Keeps old new
-RunComesTo status.ReadFault job old new = Keeps old new
-RunComesTo status.WriteFault job old new = Keeps old new ⊎ WritesFrontOfRun job old new
-RunComesTo status.Memory job old new = Keeps old new ⊎ WritesFrontOfRun job old new
-RunComesTo status.Usage job old new = ⊥
-RunComesTo (status.Refused phase line rule) job old new = ⊥
+-- and of the answer of a machine
+abbrev pub status_of_end : end.End → Status
+status_of_end ends.Ended = status.Done
+status_of_end (ends.Fault kind line) = status.Fault kind line
+status_of_end (ends.Stuck why) = status.Stuck why
+status_of_end ends.TurnLimit = status.TurnLimit
+status_of_end ends.WriteFault = status.WriteFault
+status_of_end ends.Memory = status.Memory
 
--- the status of the end of a run
-abbrev pub status_of : End → Status
-status_of end.Ended = status.Done
-status_of (end.Fault kind line) = status.Fault kind line
-status_of (end.Stuck why) = status.Stuck why
-status_of end.TurnLimit = status.TurnLimit
-status_of end.WriteFault = status.WriteFault
-status_of end.Memory = status.Memory
+-- why an input was not read, once the file was found to be a text
+pub record InputFailed (file : Option (List ℕ)) (files files' : Files) (input input' : Stream) : Type 0 where
+  pub text : Told file IsText
+  pub loaded : NoLoadFailed files files'
+  pub rose : Rose input.faults input'.faults
+  pub taken : TakesAtMost input_limit input.bytes input'.bytes
 
--- a front of what the execution of a program on an input writes was written
-pub record TellsFront (program : List Function) (input : List ℕ) (turns : ℕ) (old new : Option (List ℕ)) : Type 0 where
-  pub said : List ℕ
-  pub outcome : Outcome
-  pub runs : Mach program input turns said outcome
-  pub appended : AppendsFront old new said
+-- want of memory, before anything was written
+pub record NoMemory (input input' out out' : Stream) : Type 0 where
+  pub nothing : Unwritten out out'
+  pub taken : TakesAtMost (input_limit + 1) input.bytes input'.bytes
 
-abbrev pub Executed : Status → List Function → List ℕ → ℕ → Option (List ℕ) → Option (List ℕ) → Type 0
-Executed status.Done program input turns old new = Tells program (start program input) turns (Finished machine.Ended) old new
-Executed (status.Fault kind line) program input turns old new = Tells program (start program input) turns (Finished (machine.Faulted kind line.0)) old new
-Executed (status.Stuck why) program input turns old new = Tells program (start program input) turns (Finished (machine.Stuck why)) old new
-Executed status.TurnLimit program input turns old new = Tells program (start program input) turns Going old new
-Executed status.WriteFault program input turns old new = TellsFront program input turns old new
-Executed status.Memory program input turns old new = Keeps old new ⊎ TellsFront program input turns old new
-Executed other program input turns old new = ⊥
+-- Each status of `run NAME --turns N`, with its cause, and what was written and taken. The order is: the file is loaded, it is read as a
+-- text, the input is taken, and the program runs. Every other status is that of another command.
+abbrev pub RunComesTo : List ℕ → ℕ → Files → Files → Stream → Stream → Stream → Stream → Status → Type 0
+RunComesTo name turns files files' input input' out out' status.Done =
+    NoLoadFailed files files' × WritesRun (job (files.file name) input.bytes turns) (Finished (Comes Ended)) input' out out'
+RunComesTo name turns files files' input input' out out' (status.Fault kind line) =
+    NoLoadFailed files files' × WritesRun (job (files.file name) input.bytes turns) (Finished (Comes (Faulted kind line.0))) input' out out'
+RunComesTo name turns files files' input input' out out' (status.Stuck why) =
+    NoLoadFailed files files' × WritesRun (job (files.file name) input.bytes turns) (Finished (Stuck why)) input' out out'
+RunComesTo name turns files files' input input' out out' status.TurnLimit =
+    NoLoadFailed files files' × WritesRun (job (files.file name) input.bytes turns) Going input' out out'
+RunComesTo name turns files files' input input' out out' (status.TextRefused line) =
+    NoLoadFailed files files' × Told (files.file name) (λ bytes. IsToldAt bytes line.0) × Keeps input.bytes input'.bytes × Unwritten out out'
+RunComesTo name turns files files' input input' out out' status.InputTooLong =
+    NoLoadFailed files files' × Told (files.file name) IsText × IsTooLong input.bytes × Takes (input_limit + 1) input.bytes input'.bytes × Unwritten out out'
+RunComesTo name turns files files' input input' out out' status.ReadFault =
+    Unwritten out out' × ((LoadFailed name files files' × Keeps input.bytes input'.bytes) ⊎ InputFailed (files.file name) files files' input input')
+RunComesTo name turns files files' input input' out out' status.WriteFault =
+    NoLoadFailed files files' × Rose out.faults out'.faults × WritesPrefixOfRun (job (files.file name) input.bytes turns) input' out out'
+RunComesTo name turns files files' input input' out out' status.Memory =
+    NoLoadFailed files files' × (NoMemory input input' out out' ⊎ WritesPrefixOfRun (job (files.file name) input.bytes turns) input' out out')
+RunComesTo name turns files files' input input' out out' other = ⊥
 
--- Where the program was executed, nothing of the input is left; where the file is no text, the input is untouched. That it is too long
--- shows at the first byte behind the limit, and no read comes after that byte. WriteFault and Memory can be a note's, whatever was before.
-abbrev pub InputAfter : Status → Option (List ℕ) → Option (List ℕ) → Type 0
-InputAfter status.Done old new = IsAtEnd new
-InputAfter (status.Fault kind line) old new = IsAtEnd new
-InputAfter (status.Stuck why) old new = IsAtEnd new
-InputAfter status.TurnLimit old new = IsAtEnd new
-InputAfter (status.TextRefused line) old new = Keeps old new
-InputAfter status.InputTooLong old new = Takes (input_limit + 1) old new
-InputAfter status.ReadFault old new = TakesAtMost input_limit old new
-InputAfter other old new = ⊤
+-- a text is run on an input that isn't too long, unless a device or memory fails
+abbrev pub RunsText : Job → Stream → Stream → Status → Type 0
+RunsText job out out' result = (text : List ℕ) (program : List Function) (input written : List ℕ) (outcome : Outcome End) →
+    job.file ≡ Some text → ReadsText text program → job.input ≡ Some input → length input ≤ input_limit → Mach program input job.turns written outcome →
+    ((result ≡ status_of outcome) × Appends out.bytes out'.bytes written) ⊎ IsFailure result

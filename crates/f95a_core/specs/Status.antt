@@ -2,6 +2,7 @@
 use Rattle.std.specs.Prelude.{ℕ, List, [], ◌∷◌, ◌++◌, codes}
 use Rattle.std.specs.Fmt.{decimal}
 use Rattle.a95_base.specs.Fault.{fault_number}
+use Rattle.loop_tree.specs.Stuck.{stuck_number}
 use Rattle.f95a_core.specs.declared.status.Status.{Status}
 use Rattle.f95a_core.specs.declared.status.Status.TheVariants as status
 
@@ -25,7 +26,7 @@ message (status.Refused phase line rule) = codes "f95a: refused: phase " ++ (dec
 message status.Usage = codes "f95a: usage"
 message (status.Fault kind line) = codes "f95a: fault F" ++ (decimal (fault_number kind) ++ (codes " at line " ++ decimal line.0))
 message (status.TextRefused line) = codes "f95a: text refused at line " ++ decimal line.0
-message (status.Stuck why) = codes "f95a: stuck S" ++ decimal why
+message (status.Stuck why) = codes "f95a: stuck S" ++ decimal (stuck_number why)
 message status.TurnLimit = codes "f95a: turn limit"
 message status.InputTooLong = codes "f95a: input too long"
 message status.ReadFault = codes "f95a: read fault"

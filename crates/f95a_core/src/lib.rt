@@ -1,17 +1,18 @@
 //! The compiler as one call: `f95a` takes the words of a command line, the files, the input, the output and the notes,
 //! and answers a status. Its clauses carry the theorem of the program: what `build` writes follows its source
-//! (`specs/Building.antt`, `specs/Follows.antt`), and each status has its cause.
+//! (`specs/Building.antt`), what `run` does is the machine's run (`specs/Running.antt`), and each status has its cause.
 #![tactic(auto)]
 
+mod building;
 mod command;
 mod compiling;
 mod intake;
 mod law;
 mod lower;
 mod running;
+mod source;
 mod status;
 mod words;
-mod writing;
 
 pub use command::f95a;
 pub use compiling::{CompileRefusal, compile};

@@ -1,7 +1,9 @@
+//! What commands come to.
 ghost use Rattle.std.specs.Prelude.{◌≡◌};
 ghost use Rattle.f95a_core.specs.Status.{code_of};
 
 use a95_base::{FaultKind, Line, Rule};
+use loop_tree::StuckState;
 
 /// What a command came to.
 #[derive(Clone, Copy, Debug, PartialEq, Eq)]
@@ -17,7 +19,7 @@ pub enum Status {
     /// The loaded bytes are no LoopC text: the first line that can't stand there.
     TextRefused { line: Line },
     /// The program has no next step.
-    Stuck { why: u8 },
+    Stuck { why: StuckState },
     /// A turn more would have begun.
     TurnLimit,
     /// The input has more than 2^24 bytes.

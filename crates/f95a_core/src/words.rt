@@ -1,36 +1,50 @@
 //! The words of a command line.
 ghost use Rattle.std.specs.Prelude.{◌≡◌, map, string_bytes};
 ghost use Rattle.std.specs.Option.{option_map};
-ghost use Rattle.f95a_core.specs.Commands.{turns_of, to_build, to_run};
+ghost use Rattle.f95a_core.specs.Commands as Commands;
+ghost use Rattle.f95a_core.specs.Commands.{turns_of, command_of};
+ghost use Rattle.f95a_core.specs.Seen.{seen};
 
-/// The turns of a run where the words don't tell them.
+/// The turns of a run where the words don't say them.
 const DEFAULT_TURNS: u128 = 1_000_000_000_000;
 
-/// The most digits that tell the turns of a run.
+/// The most digits that say the turns of a run.
 const MOST_DIGITS: usize = 38;
 
-/// The file that the words ask to build.
-pub fn file_to_build(words: &[String]) -> Option<&str>
-    ensures { option_map (λ name. name.now) result ≡ to_build (map string_bytes words.now) }
+/// What a command line asks for. Each has the name of a file.
+#[derive(Clone, Copy)]
+pub enum Command<'a> {
+    /// Its source is compiled.
+    BuildFile(&'a str),
+    /// Its text is run, and may begin so many turns.
+    RunFile(&'a str, u128),
+}
+
+/// The command that the words are: `build NAME`, `run NAME`, or `run NAME --turns N`.
+pub fn command_of(words: &[String]) -> Option<Command<'_>>
+    ensures { option_map seen result ≡ command_of (map string_bytes words.now) }
 {
     match words {
-        [command, name] if command.as_str() == "build" => Some(name.as_str()),
+        [command, name] => command_named(command.as_str(), name.as_str()),
+        [command, name, option, digits]
+            if command.as_str() == "run" && option.as_str() == "--turns" => {
+            let turns = turns_of(digits.as_str().as_bytes())?;
+            Some(Command::RunFile(name.as_str(), turns))
+        }
         _ => None,
     }
 }
 
-/// The file that the words ask to run, and the turns that it may begin.
-pub fn file_to_run(words: &[String]) -> Option<(&str, u128)>
-    ensures { option_map (λ asked. (asked.0.now, asked.1)) result ≡ to_run (map string_bytes words.now) }
+/// The command of two words.
+fn command_named<'a>(command: &str, name: &'a str) -> Option<Command<'a>>
+    ensures { option_map seen result ≡ Commands.command_named command.now name.now }
 {
-    match words {
-        [command, name] if command.as_str() == "run" => Some((name.as_str(), DEFAULT_TURNS)),
-        [command, name, option, digits]
-            if command.as_str() == "run" && option.as_str() == "--turns" => {
-            let turns = turns_of(digits.as_str().as_bytes())?;
-            Some((name.as_str(), turns))
-        }
-        _ => None,
+    if command == "build" {
+        Some(Command::BuildFile(name))
+    } else if command == "run" {
+        Some(Command::RunFile(name, DEFAULT_TURNS))
+    } else {
+        None
     }
 }
 
