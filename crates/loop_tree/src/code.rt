@@ -15,7 +15,7 @@ use std::alloc::{AllocError, Global};
 use std::marker::Model;
 
 /// Statements of one body. Contracts see them with the room that is left for braces, and whether they stand in a loop.
-#[derive(Debug, Drop)]
+#[derive(Drop)]
 pub struct Code {
     statements: Items<Stmt>,
     room: u32,
