@@ -8,7 +8,7 @@ use Rattle.loop_tree.specs.State.{End, Comes, Stuck}
 use Rattle.loop_tree.specs.Run.{configuration, start, Mach}
 use Rattle.loop_tree.specs.RunLaws.{OneOutcome, EndStays, OutputGrows, SomeOutcome}
 use Rattle.loop_laws.specs.Follows.{DoesForward}
-use Rattle.loop_text.specs.Refused.{OneProgram, IsToldAt}
+use Rattle.loop_text.specs.Refused.{OneProgram, IsRefusedLine}
 use Rattle.f95a_core.specs.Building.{Builds}
 use Rattle.f95a_core.specs.Running.{job, Executes}
 use Rattle.f95a_core.specs.Source.{source_run, turn_bound}
@@ -42,7 +42,7 @@ does program one stays grows some source text builds input turns written outcome
       backward = builds.compiles.follows.backward input turns written outcome runs;
       never_stuck = λ why e. builds.compiles.follows.never_stuck input turns written why (subst (λ (o : Outcome End). Mach builds.program input turns written o) e runs);
       forward = λ n within. reach one stays grows some builds.program input (turn_bound (length source) n) turns written outcome within runs
-        (source_run builds.compiles.unit input n).written (source_run builds.compiles.unit input n).outcome (builds.compiles.follows.forward input n);
+          (source_run builds.compiles.unit input n).written (source_run builds.compiles.unit input n).outcome (builds.compiles.follows.forward input n);
     }
 
 pub joined : OneProgram → OneOutcome → EndStays → OutputGrows → SomeOutcome → Headline

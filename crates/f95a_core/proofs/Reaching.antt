@@ -30,7 +30,7 @@ module _ (functions : List Function) (final : List ℕ) where
   pub cheaper : (cost most : ℕ) (written : List ℕ) (s : State) → cost ≤ most → Good functions final cost written s → Good functions final most written s
   cheaper cost most written s h g = record {
     go = λ turns limit. let f : FinishesAt functions (configuration turns written s) (turns + cost) final (Comes Ended) = (g.go turns limit).by in
-      record { by = record { last = f.last; leads = f.leads; within = omega (arith, f.within, h); output = f.output; ends = f.ends } };
+        record { by = record { last = f.last; leads = f.leads; within = omega (arith, f.within, h); output = f.output; ends = f.ends } };
   }
 
   pub silent : (cost : ℕ) (written : List ℕ) (s s' : State) → step functions s ≡ Goes false [] s' → Good functions final cost written s' → Good functions final cost written s

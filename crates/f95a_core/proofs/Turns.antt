@@ -46,23 +46,23 @@ module _ (functions : List Function) (final written : List ℕ) (extent : ℕ) (
       → Good functions final (cost + extent) written (at v (flats (stmt.ForUp 1 (atom.Number (pos extent)) body ∷ more) ++ rest) braces)
   loop_does r small cost more rest braces v inv go = record {
     go = λ turns limit.
-      turns_are functions final (configuration turns written (at v (flats (stmt.ForUp 1 (atom.Number (pos extent)) body ∷ more) ++ rest) braces)) limit
-      (turns + (cost + (extent - 0))) (turns + (cost + extent)) (omega arith)
-      (upward_loop Between (points cost) functions 1 (atom.Number (pos extent)) body more extent rest braces (omega arith)
-      (record {
-        bounded = λ p is. refl;
-        round = λ p within is next.
-          turns_are functions final (configuration (p.begun + 1) written (at p.variables (flats body ++ code.Close ∷ (flats more ++ rest)) _)) p.limit
-          (p.begun + 1 + (cost + (extent - suc p.number))) (p.begun + (cost + (extent - p.number))) (omega arith)
-          ((r.does (cost + (extent - suc p.number)) p.number p.variables (code.Close ∷ (flats more ++ rest)) _ within is p.known
-          (λ w now later. record {
-            go = λ begun most.
-              next (record { number = suc p.number; variables = with_index w (pos (suc p.number)); known = r.moves (suc p.number) w (pos (suc p.number)) later; begun = begun; limit = most })
-              (full w) refl now refl;
-          })).go (p.begun + 1) p.limit);
-        left = λ p all.
-          turns_are functions final (configuration p.begun written (at p.variables (flats more ++ rest) braces)) p.limit (p.begun + cost) (p.begun + (cost + (extent - p.number))) (omega arith)
-          ((go p.variables (subst (λ (n : ℕ). Inv n p.variables) all p.known)).go p.begun p.limit);
-      })
-      (record { number = 0; variables = with_index v (pos 0); known = r.moves 0 v (pos 0) inv; begun = turns; limit = limit }) (full v) refl refl);
+        turns_are functions final (configuration turns written (at v (flats (stmt.ForUp 1 (atom.Number (pos extent)) body ∷ more) ++ rest) braces)) limit
+        (turns + (cost + (extent - 0))) (turns + (cost + extent)) (omega arith)
+        (upward_loop Between (points cost) functions 1 (atom.Number (pos extent)) body more extent rest braces (omega arith)
+        (record {
+          bounded = λ p is. refl;
+          round = λ p within is next.
+              turns_are functions final (configuration (p.begun + 1) written (at p.variables (flats body ++ code.Close ∷ (flats more ++ rest)) _)) p.limit
+              (p.begun + 1 + (cost + (extent - suc p.number))) (p.begun + (cost + (extent - p.number))) (omega arith)
+              ((r.does (cost + (extent - suc p.number)) p.number p.variables (code.Close ∷ (flats more ++ rest)) _ within is p.known
+              (λ w now later. record {
+                go = λ begun most.
+                    next (record { number = suc p.number; variables = with_index w (pos (suc p.number)); known = r.moves (suc p.number) w (pos (suc p.number)) later; begun = begun; limit = most })
+                    (full w) refl now refl;
+              })).go (p.begun + 1) p.limit);
+          left = λ p all.
+              turns_are functions final (configuration p.begun written (at p.variables (flats more ++ rest) braces)) p.limit (p.begun + cost) (p.begun + (cost + (extent - p.number))) (omega arith)
+              ((go p.variables (subst (λ (n : ℕ). Inv n p.variables) all p.known)).go p.begun p.limit);
+        })
+        (record { number = 0; variables = with_index v (pos 0); known = r.moves 0 v (pos 0) inv; begun = turns; limit = limit }) (full v) refl refl);
   }

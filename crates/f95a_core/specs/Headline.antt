@@ -4,7 +4,7 @@ use Rattle.a95_base.specs.Outcome.{Outcome, Finished, Going, Stop, IsPrefix}
 use Rattle.loop_tree.specs.declared.stuck.StuckState.{StuckState}
 use Rattle.loop_tree.specs.State.{End, Comes, Stuck}
 use Rattle.loop_laws.specs.Follows.{DoesBackward}
-use Rattle.loop_text.specs.Refused.{IsToldAt}
+use Rattle.loop_text.specs.Refused.{IsRefusedLine}
 use Rattle.rank_one.specs.declared.unit.Unit.{Unit}
 use Rattle.rank_one.specs.Reading.{Reads}
 use Rattle.f95a_core.specs.Building.{Builds}
@@ -28,7 +28,7 @@ pub record DoesAsItsSource (source input : List ℕ) (turns : ℕ) (written : Li
 
 -- a text of `build` is never refused, and every run of it does as its source
 pub record RunsAsMeant (source text : List ℕ) : Type 0 where
-  pub never_refused : (line : ℕ) → IsToldAt text line → ⊥
+  pub never_refused : (line : ℕ) → IsRefusedLine text line → ⊥
   pub does : (input : List ℕ) (turns : ℕ) (written : List ℕ) (outcome : Outcome End) →
       Executes (job (Some text) (Some input) turns) written outcome → DoesAsItsSource source input turns written outcome
 

@@ -8,7 +8,7 @@ use Rattle.loop_tree.specs.declared.tree.Function.{Function}
 use Rattle.loop_tree.specs.State.{End, Comes, Stuck}
 use Rattle.loop_tree.specs.Run.{Mach}
 use Rattle.loop_tree.specs.Program.{ReadsText}
-use Rattle.loop_text.specs.Refused.{IsToldAt}
+use Rattle.loop_text.specs.Refused.{IsRefusedLine}
 use Rattle.loop_machine.specs.declared.end.End as end
 use Rattle.loop_machine.specs.declared.end.End.TheVariants as ends
 use Rattle.f95a_core.specs.declared.status.Status.{Status}
@@ -97,7 +97,7 @@ RunComesTo name turns files files' input input' out out' (status.Stuck why) =
 RunComesTo name turns files files' input input' out out' status.TurnLimit =
     NoLoadFailed files files' × WritesRun (job (files.file name) input.bytes turns) Going input' out out'
 RunComesTo name turns files files' input input' out out' (status.TextRefused line) =
-    NoLoadFailed files files' × Told (files.file name) (λ bytes. IsToldAt bytes line.0) × Keeps input.bytes input'.bytes × Unwritten out out'
+    NoLoadFailed files files' × Told (files.file name) (λ bytes. IsRefusedLine bytes line.0) × Keeps input.bytes input'.bytes × Unwritten out out'
 RunComesTo name turns files files' input input' out out' status.InputTooLong =
     NoLoadFailed files files' × Told (files.file name) IsText × IsTooLong input.bytes × Takes (input_limit + 1) input.bytes input'.bytes × Unwritten out out'
 RunComesTo name turns files files' input input' out out' status.ReadFault =

@@ -12,6 +12,7 @@ use sqlite_items::Items;
 use std::alloc::{AllocError, Global};
 
 /// The program of a unit, piece by piece: the block of each array, and then the code of each statement.
+#[derive(Drop)]
 pub struct Lowering<'a> {
     begun: bool,
     arrays: &'a [Array],
@@ -79,7 +80,11 @@ fn array_code(alloc: Global, place: usize, array: &Array) -> Result<Code, AllocE
     Ok(code)
 }
 
-fn statement_code(alloc: Global, arrays: &[Array], statement: &Statement) -> Result<Code, AllocError>
+fn statement_code(
+    alloc: Global,
+    arrays: &[Array],
+    statement: &Statement,
+) -> Result<Code, AllocError>
     ensures { IfOk result (λ code. code ≡ Lowered.body_with (Lowered.action_code arrays.now statement.now.line statement.now.action)) }
 {
     match &statement.action {
@@ -174,7 +179,13 @@ fn move_elements(
 }
 
 /// The loop that adds the elements of an array to the record.
-fn show(alloc: Global, code: &mut Code, line: u32, extent: u32, place: u32) -> Result<(), AllocError>
+fn show(
+    alloc: Global,
+    code: &mut Code,
+    line: u32,
+    extent: u32,
+    place: u32,
+) -> Result<(), AllocError>
     requires { 0 < code.old.room }
     ensures rows { OnOk result (code.new.statements ≡ code.old.statements ++ Lowered.show line extent place ∷ []) }
     ensures body { OnOk result (IsSameBody code.old code.new) }
