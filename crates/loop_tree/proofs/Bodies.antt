@@ -41,7 +41,9 @@ either_true false b P f g e = g e
 
 -- ---- one more
 
-pub both_bodies : (room : ℕ) (in_loop : Bool) (a b : List Stmt) → IsBody (record { statements = a; room = room; in_loop = in_loop }) → IsBody (record { statements = b; room = room; in_loop = in_loop })
+pub both_bodies : (room : ℕ) (in_loop : Bool) (a b : List Stmt)
+    → IsBody (record { statements = a; room = room; in_loop = in_loop })
+    → IsBody (record { statements = b; room = room; in_loop = in_loop })
     → IsBody (record { statements = a ++ b; room = room; in_loop = in_loop })
 both_bodies room in_loop a b f g = record {
   numbers = subst (AllByRecursion FitsLine) (sym (flats-append a b)) (fit_both (flats a) (flats b) f.numbers g.numbers);
@@ -54,7 +56,9 @@ or_false : (a : Bool) → (a || false) ≡ a
 or_false true = refl
 or_false false = refl
 
-one_body : (room : ℕ) (in_loop : Bool) (s : Stmt) → room ≤ 999 → Stands (record { statements = []; room = room; in_loop = in_loop }) s → IsBody (record { statements = s ∷ []; room = room; in_loop = in_loop })
+one_body : (room : ℕ) (in_loop : Bool) (s : Stmt) → room ≤ 999
+    → Stands (record { statements = []; room = room; in_loop = in_loop }) s
+    → IsBody (record { statements = s ∷ []; room = room; in_loop = in_loop })
 one_body room in_loop s small is = record {
   numbers = fit_both (flat s) [] is.numbers tt;
   loops = λ e. is.loops (sym (or_false (leaves s)) ∙ e);
@@ -73,7 +77,8 @@ pushed (Err e) body s new is stands ok err = subst (λ (l : List Stmt). IsBody (
 
 -- ---- each kind of statement
 
-pub row_stands : (body : Body) (row : Row) → FitsRow row → (leaves_row row ≡ true → body.in_loop ≡ true) → Stands body (stmt.Row row)
+pub row_stands : (body : Body) (row : Row) → FitsRow row → (leaves_row row ≡ true → body.in_loop ≡ true)
+    → Stands body (stmt.Row row)
 row_stands body row fits loops = record {
   numbers = subst (AllByRecursion FitsLine) (sym (flat-Row row)) (fits, tt);
   loops = λ e. loops (sym (leaves-Row row) ∙ e);
@@ -81,17 +86,20 @@ row_stands body row fits loops = record {
 }
 
 -- a head, statements and the closing brace
-closed_fit : (head : CodeLine) (body : List Stmt) → FitsLine head → AllByRecursion FitsLine (flats body) → AllByRecursion FitsLine (head ∷ (flats body ++ code.Close ∷ []))
+closed_fit : (head : CodeLine) (body : List Stmt) → FitsLine head → AllByRecursion FitsLine (flats body)
+    → AllByRecursion FitsLine (head ∷ (flats body ++ code.Close ∷ []))
 closed_fit head body h k = (h, fit_both (flats body) (code.Close ∷ []) k (tt, tt))
 
-pub if_stands : (body inner : Body) (test : Atom) → FitsAtom test → IsBody inner → inner.room < body.room → (inner.in_loop ≡ true → body.in_loop ≡ true) → Stands body (stmt.If test inner.statements)
+pub if_stands : (body inner : Body) (test : Atom) → FitsAtom test → IsBody inner → inner.room < body.room
+    → (inner.in_loop ≡ true → body.in_loop ≡ true) → Stands body (stmt.If test inner.statements)
 if_stands body inner test fits is room loops = record {
   numbers = subst (AllByRecursion FitsLine) (sym (flat-If test inner.statements)) (closed_fit (code.If test) inner.statements fits is.numbers);
   loops = λ e. loops (is.loops (sym (leaves-If test inner.statements) ∙ e));
   braces = omega (arith, depth-If test inner.statements, is.braces);
 }
 
-pub else_stands : (body inner other : Body) (test : Atom) → FitsAtom test → IsBody inner → inner.room < body.room → (inner.in_loop ≡ true → body.in_loop ≡ true)
+pub else_stands : (body inner other : Body) (test : Atom) → FitsAtom test → IsBody inner → inner.room < body.room
+    → (inner.in_loop ≡ true → body.in_loop ≡ true)
     → IsBody other → other.room < body.room → (other.in_loop ≡ true → body.in_loop ≡ true) → Stands body (stmt.IfElse test inner.statements other.statements)
 else_stands body inner other test fits is room loops too below leaves_none = record {
   numbers = subst (AllByRecursion FitsLine) (sym (flat-IfElse test inner.statements other.statements))
@@ -105,14 +113,16 @@ no_leave : (b : Bool) (P : Type 0) → b ≡ false → b ≡ true → P
 no_leave true P e f = absurd cc
 no_leave false P e f = absurd cc
 
-pub up_stands : (body inner : Body) (k : ℕ) (bound : Atom) → FitsNumber k → FitsAtom bound → IsBody inner → inner.room < body.room → Stands body (stmt.ForUp k bound inner.statements)
+pub up_stands : (body inner : Body) (k : ℕ) (bound : Atom) → FitsNumber k → FitsAtom bound → IsBody inner
+    → inner.room < body.room → Stands body (stmt.ForUp k bound inner.statements)
 up_stands body inner k bound small fits is room = record {
   numbers = subst (AllByRecursion FitsLine) (sym (flat-ForUp k bound inner.statements)) (closed_fit (code.ForUp k bound) inner.statements (small, fits) is.numbers);
   loops = no_leave (leaves (stmt.ForUp k bound inner.statements)) (body.in_loop ≡ true) (leaves-ForUp k bound inner.statements);
   braces = omega (arith, depth-ForUp k bound inner.statements, is.braces);
 }
 
-pub down_stands : (body inner : Body) (k : ℕ) (bound : Atom) → FitsNumber k → FitsAtom bound → IsBody inner → inner.room < body.room → Stands body (stmt.ForDown k bound inner.statements)
+pub down_stands : (body inner : Body) (k : ℕ) (bound : Atom) → FitsNumber k → FitsAtom bound → IsBody inner
+    → inner.room < body.room → Stands body (stmt.ForDown k bound inner.statements)
 down_stands body inner k bound small fits is room = record {
   numbers = subst (AllByRecursion FitsLine) (sym (flat-ForDown k bound inner.statements)) (closed_fit (code.ForDown k bound) inner.statements (small, fits) is.numbers);
   loops = no_leave (leaves (stmt.ForDown k bound inner.statements)) (body.in_loop ≡ true) (leaves-ForDown k bound inner.statements);

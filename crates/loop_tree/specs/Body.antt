@@ -1,5 +1,5 @@
 -- The statements of a body, and the place in a program that they are made for.
-use Rattle.std.specs.Prelude.{◌≡◌, ℕ, ◌≤◌, Bool, true, List, refl}
+use Rattle.std.specs.Prelude.{◌≡◌, ℕ, ◌≤◌, Bool, true, List, [], ◌∷◌, ◌++◌, refl}
 use Rattle.std.specs.List.{AllByRecursion}
 use Rattle.std.specs.Coded.{Coded, code_by, coded×, coded_ℕ, coded_bool, coded_list}
 use Rattle.loop_tree.specs.declared.tree.Stmt.{Stmt}
@@ -20,6 +20,10 @@ pub record IsBody (body : Body) : Type 0 where
   pub loops : some_leaves body.statements ≡ true → body.in_loop ≡ true
   pub braces : depths body.statements ≤ body.room
   pub room : body.room ≤ 999
+
+-- with one more statement
+abbrev pub with_statement : Body → Stmt → Body
+with_statement body s = record body { statements = body.statements ++ s ∷ [] }
 
 -- one more statement may stand there
 pub record Stands (body : Body) (s : Stmt) : Type 0 where

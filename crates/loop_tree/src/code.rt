@@ -2,9 +2,9 @@
 //! (`specs/Program.antt`) holds of every `Code`: numbers are in range by their types, and that no loop is left from
 //! outside and not too many braces are open is asked where a row or a block is pushed.
 
-ghost use Rattle.std.specs.Prelude.{◌≡◌, ◌+◌, ◌-◌, ◌<◌, ◌≤◌, false, true, [], ◌∷◌, ◌++◌, OnOk, OnErr};
+ghost use Rattle.std.specs.Prelude.{◌≡◌, ◌+◌, ◌-◌, ◌<◌, ◌≤◌, false, true, [], OnOk, OnErr};
 ghost use Rattle.loop_tree.specs.Program.{leaves_row};
-ghost use Rattle.loop_tree.specs.Body.{IsBody, Stands};
+ghost use Rattle.loop_tree.specs.Body.{IsBody, Stands, with_statement};
 
 use crate::atom::Atom;
 use crate::fits;
@@ -104,7 +104,7 @@ impl Code {
     #[tactic(auto, using(crate::proofs::Bodies::row_stands))]
     pub fn push_row(&mut self, row: Row) -> Result<(), AllocError>
         requires { leaves_row row ≡ true → self.old.in_loop ≡ true }
-        ensures ok { OnOk result (self.new ≡ record self.old { statements = self.old.statements ++ Stmt.Row row ∷ [] }) }
+        ensures ok { OnOk result (self.new ≡ with_statement self.old (Stmt.Row row)) }
         ensures err { OnErr result (self.new ≡ self.old) }
     {
         fits::row(&row);
@@ -116,7 +116,7 @@ impl Code {
     pub fn push_if(&mut self, test: Atom, body: Code) -> Result<(), AllocError>
         requires room { body.room < self.old.room }
         requires in_loop { body.in_loop ≡ true → self.old.in_loop ≡ true }
-        ensures ok { OnOk result (self.new ≡ record self.old { statements = self.old.statements ++ Stmt.If test body.statements ∷ [] }) }
+        ensures ok { OnOk result (self.new ≡ with_statement self.old (Stmt.If test body.statements)) }
         ensures err { OnErr result (self.new ≡ self.old) }
     {
         fits::atom(&test);
@@ -137,7 +137,7 @@ impl Code {
         requires in_loop { body.in_loop ≡ true → self.old.in_loop ≡ true }
         requires other_room { other.room < self.old.room }
         requires other_in_loop { other.in_loop ≡ true → self.old.in_loop ≡ true }
-        ensures ok { OnOk result (self.new ≡ record self.old { statements = self.old.statements ++ Stmt.IfElse test body.statements other.statements ∷ [] }) }
+        ensures ok { OnOk result (self.new ≡ with_statement self.old (Stmt.IfElse test body.statements other.statements)) }
         ensures err { OnErr result (self.new ≡ self.old) }
     {
         fits::atom(&test);
@@ -151,7 +151,7 @@ impl Code {
     #[tactic(auto, using(crate::proofs::Bodies::up_stands))]
     pub fn push_for_up(&mut self, k: u32, bound: Atom, body: Code) -> Result<(), AllocError>
         requires room { body.room < self.old.room }
-        ensures ok { OnOk result (self.new ≡ record self.old { statements = self.old.statements ++ Stmt.ForUp k bound body.statements ∷ [] }) }
+        ensures ok { OnOk result (self.new ≡ with_statement self.old (Stmt.ForUp k bound body.statements)) }
         ensures err { OnErr result (self.new ≡ self.old) }
     {
         fits::number(&k);
@@ -164,7 +164,7 @@ impl Code {
     #[tactic(auto, using(crate::proofs::Bodies::down_stands))]
     pub fn push_for_down(&mut self, k: u32, bound: Atom, body: Code) -> Result<(), AllocError>
         requires room { body.room < self.old.room }
-        ensures ok { OnOk result (self.new ≡ record self.old { statements = self.old.statements ++ Stmt.ForDown k bound body.statements ∷ [] }) }
+        ensures ok { OnOk result (self.new ≡ with_statement self.old (Stmt.ForDown k bound body.statements)) }
         ensures err { OnErr result (self.new ≡ self.old) }
     {
         fits::number(&k);
@@ -177,7 +177,7 @@ impl Code {
     #[tactic(auto, using(crate::proofs::Bodies::forever_stands))]
     pub fn push_forever(&mut self, body: Code) -> Result<(), AllocError>
         requires room { body.room < self.old.room }
-        ensures ok { OnOk result (self.new ≡ record self.old { statements = self.old.statements ++ Stmt.Forever body.statements ∷ [] }) }
+        ensures ok { OnOk result (self.new ≡ with_statement self.old (Stmt.Forever body.statements)) }
         ensures err { OnErr result (self.new ≡ self.old) }
     {
         let body = body.into_statements();
@@ -186,7 +186,7 @@ impl Code {
 
     fn push(&mut self, statement: Stmt) -> Result<(), AllocError>
         requires { Stands self.old statement }
-        ensures ok { OnOk result (self.new ≡ record self.old { statements = self.old.statements ++ statement ∷ [] }) }
+        ensures ok { OnOk result (self.new ≡ with_statement self.old statement) }
         ensures err { OnErr result (self.new ≡ self.old) }
     {
         self.statements.push(statement)

@@ -1,7 +1,7 @@
 //! The program of its pieces.
 ghost use Rattle.std.specs.Prelude.{◌≡◌, ◌+◌, ◌≤◌, ◌^◌, length, OnOk, IfOk, Some};
 ghost use Rattle.loop_writer.specs.Pieces.{functions_of, BeginsMain, IsOutside};
-ghost use Rattle.loop_writer.specs.Printed.{FitsPiece};
+ghost use Rattle.loop_writer.specs.Printed.{count_behind, FitsPiece};
 ghost use Rattle.loop_writer.specs.Collected.{with_piece, closed};
 
 use crate::pieces::{Piece, Producer, begin_main};
@@ -45,6 +45,7 @@ impl Begun {
         requires { IsOutside (Some piece) }
         ensures pushed { OnOk result (self.new ≡ with_piece self.old piece) }
         ensures fits { OnOk result (FitsPiece piece) }
+        ensures count { OnOk result (length self.new.functions + 1 ≡ count_behind (length self.old.functions + 1) piece) }
         ensures few { OnOk result (length self.old.functions + 1 ≤ 2 ^ 32 → length self.new.functions + 1 ≤ 2 ^ 32) }
     {
         match piece {
@@ -56,6 +57,7 @@ impl Begun {
     fn begin(&mut self, alloc: Global, parameters: Items<Letter>) -> Result<(), AllocError>
         ensures pushed { OnOk result (self.new ≡ with_piece self.old (Piece.Begin parameters)) }
         ensures fits { OnOk result (length parameters ≤ 2 ^ 32) }
+        ensures count { OnOk result (length self.new.functions ≡ length self.old.functions + 1) }
         ensures few { OnOk result (length self.new.functions + 1 ≤ 2 ^ 32) }
     {
         if self.functions.len() >= MOST - 1 || parameters.len() > MOST {

@@ -1,9 +1,9 @@
 //! The text of a program, and of its parts, behind the bytes of a `String`.
 
-ghost use Rattle.std.specs.Prelude.{◌≡◌, [], ◌∷◌, ◌++◌, IfOk, OnOk, string_bytes, map, flat_map, codes};
+ghost use Rattle.std.specs.Prelude.{◌≡◌, [], ◌∷◌, ◌++◌, IfOk, OnOk, string_bytes, codes};
 ghost use Rattle.loop_tree.specs.Lines.{flat, flats};
-ghost use Rattle.loop_tree.specs.Text.{function_head, function_lines, functions_lines, listed, parameters_text, spell, text_of_program, with_line_feeds};
-ghost use Rattle.loop_writer.specs.Printed.{statements_text};
+ghost use Rattle.loop_tree.specs.Text.{function_head, function_lines, functions_lines, listed, parameters_text, text_of_program, with_line_feeds};
+ghost use Rattle.loop_writer.specs.Printed.{lines_text, others_text, statements_text};
 
 use a95_base::Memory;
 use loop_tree::{CodeLine, Function, Letter, LoopProgram, Stmt};
@@ -74,7 +74,7 @@ fn put_parameters(out: &mut String, parameters: &[Letter]) -> Result<(), AllocEr
 
 /// The parameters from number 1 on.
 fn put_others(out: &mut String, parameters: &[Letter]) -> Result<(), AllocError>
-    ensures { OnOk result (string_bytes out.new ≡ string_bytes out.old ++ flat_map (λ y. codes ", " ++ y) (parameters_text 1 parameters.now)) }
+    ensures { OnOk result (string_bytes out.new ≡ string_bytes out.old ++ others_text parameters.now) }
 {
     for (place, letter) in parameters.iter().enumerate() {
         let number = place + 1;
@@ -85,7 +85,7 @@ fn put_others(out: &mut String, parameters: &[Letter]) -> Result<(), AllocError>
 
 #[cycle(put)]
 fn put(out: &mut String, statement: &Stmt) -> Result<(), AllocError>
-    ensures { OnOk result (string_bytes out.new ≡ string_bytes out.old ++ with_line_feeds (map spell (flat statement.now))) }
+    ensures { OnOk result (string_bytes out.new ≡ string_bytes out.old ++ lines_text (flat statement.now)) }
 {
     match statement {
         Stmt::Row(row) => write!(out, "{row};\n"),
@@ -115,7 +115,7 @@ fn put(out: &mut String, statement: &Stmt) -> Result<(), AllocError>
 /// A line that opens a brace, the statements behind it, and the brace that closes it.
 #[cycle(put)]
 fn put_block(out: &mut String, head: &CodeLine, body: &[Stmt]) -> Result<(), AllocError>
-    ensures { OnOk result (string_bytes out.new ≡ string_bytes out.old ++ with_line_feeds (map spell (head.now ∷ (flats body.now ++ CodeLine.Close ∷ [])))) }
+    ensures { OnOk result (string_bytes out.new ≡ string_bytes out.old ++ lines_text (head.now ∷ (flats body.now ++ CodeLine.Close ∷ []))) }
 {
     write!(out, "{head}\n")?;
     put_all(out, body)?;
@@ -124,7 +124,7 @@ fn put_block(out: &mut String, head: &CodeLine, body: &[Stmt]) -> Result<(), All
 
 #[cycle(put)]
 fn put_all(out: &mut String, body: &[Stmt]) -> Result<(), AllocError>
-    ensures { OnOk result (string_bytes out.new ≡ string_bytes out.old ++ with_line_feeds (map spell (flats body.now))) }
+    ensures { OnOk result (string_bytes out.new ≡ string_bytes out.old ++ statements_text body.now) }
 {
     for statement in body {
         put(out, statement)?;

@@ -4,8 +4,7 @@ ghost use Rattle.std.specs.Io.KnownBytes.{Appends};
 ghost use Rattle.io_edge.specs.Causes.{Rose};
 ghost use Rattle.io_edge.specs.Known.{AppendsPrefix};
 ghost use Rattle.loop_tree.specs.Program.{IsProgram};
-ghost use Rattle.loop_tree.specs.Text.{text_of_program};
-ghost use Rattle.loop_writer.specs.Pieces.{functions_of, BeginsMain, IsNext, IsOutside};
+ghost use Rattle.loop_writer.specs.Pieces.{functions_of, text_of, BeginsMain, IsCutOff, IsNext, IsOutside};
 ghost use Rattle.loop_writer.specs.Printed.{begun_text, end_text, piece_text, count_behind, FitsPiece, Leaves, BreaksOff};
 
 use crate::pieces::{Piece, Producer, begin_main};
@@ -22,6 +21,7 @@ const HELD: usize = 1 << 16;
 const MOST: usize = 1 << 32;
 
 /// Writes the text of a program while it is made. It holds one piece, its text, and less than 64 KiB of text before it.
+/// Where it fails, what was written is a prefix of that text, and of the text of the pieces that were given.
 /// A program of more than 2^32 functions, or with more parameters in one, is answered as want of memory.
 pub fn write<P: Producer, K: Sink>(
     alloc: Global,
@@ -29,9 +29,10 @@ pub fn write<P: Producer, K: Sink>(
     out: &mut K,
 ) -> Result<(), PutFault>
     requires { BeginsMain (P.left pieces.old) }
-    ensures whole { OnOk result (Appends (K.written out.old) (K.written out.new) (text_of_program (functions_of (P.left pieces.old)))) }
+    ensures whole { OnOk result (Appends (K.written out.old) (K.written out.new) (text_of (P.left pieces.old))) }
     ensures program { OnOk result (IsProgram (functions_of (P.left pieces.old))) }
-    ensures front { OnErr result (AppendsPrefix (K.written out.old) (K.written out.new) (text_of_program (functions_of (P.left pieces.old)))) }
+    ensures prefix { OnErr result (AppendsPrefix (K.written out.old) (K.written out.new) (text_of (P.left pieces.old))) }
+    ensures cut { OnErr result (IsCutOff (K.written out.old) (K.written out.new) (P.left pieces.old)) }
     ensures ok { OnOk result (K.faults out.new ≡ K.faults out.old) }
     ensures counted { IsErrOf result PutFault.Failed → Rose (K.faults out.old) (K.faults out.new) }
     ensures later { K.faults out.old ≤ K.faults out.new }
@@ -41,7 +42,11 @@ pub fn write<P: Producer, K: Sink>(
     };
     let mut count = 1_usize;
     while let Some(piece) = next_piece(alloc, pieces)? {
-        count = write_piece(&mut held, out, count, piece)?;
+        let Ok(behind) = put_piece(&mut held, count, piece) else {
+            return Err(PutFault::Memory);
+        };
+        put_grown(&mut held, out)?;
+        count = behind;
     }
     let Ok(()) = put_end(&mut held) else {
         return Err(PutFault::Memory);
@@ -75,12 +80,12 @@ fn next_piece<P: Producer>(alloc: Global, pieces: &mut P) -> Result<Option<Piece
 }
 
 /// Appends the text of a piece behind so many functions, and answers how many there are behind it.
-fn put_piece(held: &mut String, count: usize, piece: &Piece) -> Result<usize, AllocError>
-    requires { IsOutside (Some piece.now) }
-    ensures text { OnOk result (string_bytes held.new ≡ string_bytes held.old ++ piece_text count piece.now) }
-    ensures count { IfOk result (λ n. n ≡ count_behind count piece.now) }
+fn put_piece(held: &mut String, count: usize, piece: Piece) -> Result<usize, AllocError>
+    requires { IsOutside (Some piece) }
+    ensures text { OnOk result (string_bytes held.new ≡ string_bytes held.old ++ piece_text count piece) }
+    ensures count { IfOk result (λ n. n ≡ count_behind count piece) }
     ensures few { IfOk result (λ n. count ≤ 2 ^ 32 → n ≤ 2 ^ 32) }
-    ensures fits { OnOk result (FitsPiece piece.now) }
+    ensures fits { OnOk result (FitsPiece piece) }
 {
     match piece {
         Piece::Begin(parameters) => {
@@ -106,37 +111,12 @@ fn put_end(held: &mut String) -> Result<(), AllocError>
     write!(held, "}}\n")
 }
 
-/// Writes a piece behind the text that is held.
-#[tactic(auto, using(crate::proofs::Left::nothing_written))]
-fn write_piece<K: Sink>(
-    held: &mut String,
-    out: &mut K,
-    count: usize,
-    piece: Piece,
-) -> Result<usize, PutFault>
-    requires { IsOutside (Some piece) }
-    ensures left { OnOk result (Leaves (K.written out.old) (K.written out.new) (string_bytes held.new) (string_bytes held.old ++ piece_text count piece)) }
-    ensures front { OnErr result (BreaksOff (K.written out.old) (K.written out.new) (string_bytes held.old ++ piece_text count piece)) }
-    ensures count { IfOk result (λ n. n ≡ count_behind count piece) }
-    ensures few { IfOk result (λ n. count ≤ 2 ^ 32 → n ≤ 2 ^ 32) }
-    ensures fits { OnOk result (FitsPiece piece) }
-    ensures ok { OnOk result (K.faults out.new ≡ K.faults out.old) }
-    ensures counted { IsErrOf result PutFault.Failed → Rose (K.faults out.old) (K.faults out.new) }
-    ensures later { K.faults out.old ≤ K.faults out.new }
-{
-    let Ok(behind) = put_piece(held, count, &piece) else {
-        return Err(PutFault::Memory);
-    };
-    put_grown(held, out)?;
-    Ok(behind)
-}
-
 /// Puts the text that is held once it is long enough.
 #[tactic(auto, using(crate::proofs::Left::nothing_put, crate::proofs::Left::all_put))]
 fn put_grown<K: Sink>(held: &mut String, out: &mut K) -> Result<(), PutFault>
     ensures short { OnOk result (length (string_bytes held.new) < 2 ^ 16) }
     ensures left { OnOk result (Leaves (K.written out.old) (K.written out.new) (string_bytes held.new) (string_bytes held.old)) }
-    ensures front { OnErr result (BreaksOff (K.written out.old) (K.written out.new) (string_bytes held.old)) }
+    ensures prefix { OnErr result (BreaksOff (K.written out.old) (K.written out.new) (string_bytes held.old)) }
     ensures ok { OnOk result (K.faults out.new ≡ K.faults out.old) }
     ensures counted { IsErrOf result PutFault.Failed → Rose (K.faults out.old) (K.faults out.new) }
     ensures later { K.faults out.old ≤ K.faults out.new }
@@ -152,7 +132,7 @@ fn put_grown<K: Sink>(held: &mut String, out: &mut K) -> Result<(), PutFault>
 fn put_held<K: Sink>(held: &mut String, out: &mut K) -> Result<(), PutFault>
     ensures emptied { OnOk result (string_bytes held.new ≡ []) }
     ensures appended { OnOk result (Appends (K.written out.old) (K.written out.new) (string_bytes held.old)) }
-    ensures front { OnErr result (BreaksOff (K.written out.old) (K.written out.new) (string_bytes held.old)) }
+    ensures prefix { OnErr result (BreaksOff (K.written out.old) (K.written out.new) (string_bytes held.old)) }
     ensures ok { OnOk result (K.faults out.new ≡ K.faults out.old) }
     ensures counted { IsErrOf result PutFault.Failed → Rose (K.faults out.old) (K.faults out.new) }
     ensures later { K.faults out.old ≤ K.faults out.new }
