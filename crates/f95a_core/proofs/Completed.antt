@@ -51,11 +51,11 @@ runs_text one same name turns files files' input input' out out' notes notes' st
     ran_whole one same (job (files.file name) input.bytes turns) Going input' out out' notes notes' result h.1 noted
 runs_text one same name turns files files' input input' out out' notes notes' (status.TextRefused line) result noted h =
     λ text program bytes written outcome file reads held short runs.
-    absurd (h.1.0.holds.refused.no_text program (subst (λ (t : List ℕ). ReadsText t program) (sym (one_told (files.file name) h.1.0.bytes text h.1.0.is file)) reads))
+    absurd (h.1.holds.refused.no_text program (subst (λ (t : List ℕ). ReadsText t program) (sym (one_told (files.file name) h.1.bytes text h.1.is file)) reads))
 runs_text one same name turns files files' input input' out out' notes notes' status.InputTooLong result noted h =
     λ text program bytes written outcome file reads held short runs.
-    let is : h.1.1.0.input ≡ bytes = one_told input.bytes h.1.1.0.input bytes h.1.1.0.held held in
-    absurd (omega (arith, ap length is, h.1.1.0.long, short))
+    let is : h.2.input ≡ bytes = one_told input.bytes h.2.input bytes h.2.held held in
+    absurd (omega (arith, ap length is, h.2.long, short))
 runs_text one same name turns files files' input input' out out' notes notes' status.ReadFault result noted h =
     λ text program bytes written outcome file reads held short runs. inr (failure_stays status.ReadFault result notes notes' noted (inl refl))
 runs_text one same name turns files files' input input' out out' notes notes' status.WriteFault result noted h =

@@ -27,7 +27,7 @@ use Rattle.loop_tree.specs.declared.tree.Stmt.TheFolds.{fold-roll-Stmt}
 use Rattle.loop_tree.specs.Lines.{flat, flats}
 use Rattle.loop_tree.specs.Program.{FitsAtom, FitsRow, FitsLine, leaves_row, leaves, leaves_at, some_leaves, depth, depth_at, depths, IsProgram}
 use Rattle.f95a_core.specs.Lowered.{set_row, load, factor_atom, times, product_code, product_atom, term_code, term_atom, plus, addends_code, addends_atom, sum_code, sum_atom, is_factor, value_code, value_atom, at_line, show, extent_of, assignment_code, action_code, statements_code, declared_code, program_of}
-use Rattle.f95a_core.proofs.Flat.{flat_row, flat_up}
+use Rattle.loop_tree.proofs.Trees.{flat-Row, flat-ForUp}
 use Rattle.f95a_core.proofs.Statements.{both, all_front, small_extent, extent_is, extent_there}
 
 -- ---- what each statement keeps, and so what a list of them does
@@ -72,13 +72,13 @@ fine_front n s more fits stays shallow f = record {
 fine_row : (n : ℕ) (r : Row) (more : List Stmt) → FitsRow r → leaves_row r ≡ false → Fine n more → Fine n (stmt.Row r ∷ more)
 fine_row n r more fits stays f =
     let level : depth (stmt.Row r) ≤ n = omega (arith, depth_is_row r) in
-    fine_front n (stmt.Row r) more (subst (λ (ls : List CodeLine). AllByRecursion FitsLine ls) (sym (flat_row r)) (fits, tt)) (leaves_is_row r ∙ stays) level f
+    fine_front n (stmt.Row r) more (subst (λ (ls : List CodeLine). AllByRecursion FitsLine ls) (sym (flat-Row r)) (fits, tt)) (leaves_is_row r ∙ stays) level f
 
 fine_up : (n k : ℕ) (bound : Atom) (body more : List Stmt) → k < 2 ^ 32 → FitsAtom bound → Fine n body → Fine (n + 1) more → Fine (n + 1) (stmt.ForUp k bound body ∷ more)
 fine_up n k bound body more small fits inner f =
     let level : depth (stmt.ForUp k bound body) ≤ n + 1 = omega (arith, depth_is_up k bound body, inner.braces) in
     fine_front (n + 1) (stmt.ForUp k bound body) more
-    (subst (λ (ls : List CodeLine). AllByRecursion FitsLine ls) (sym (flat_up k bound body)) ((small, fits), all_both (flats body) (code.Close ∷ []) inner.numbers (tt, tt)))
+    (subst (λ (ls : List CodeLine). AllByRecursion FitsLine ls) (sym (flat-ForUp k bound body)) ((small, fits), all_both (flats body) (code.Close ∷ []) inner.numbers (tt, tt)))
     (leaves_is_up k bound body) level f
 
 or_false : (a b : Bool) → (a || b) ≡ false → (a ≡ false) × (b ≡ false)

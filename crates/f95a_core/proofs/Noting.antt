@@ -44,7 +44,7 @@ pub builds_unbroken : (name : List ℕ) (files files' : Files) (out out' notes n
     Noted came result notes notes' → BuildComesTo name files files' out out' came → BuildsUnbroken (files.file name) result
 builds_unbroken name files files' out out' notes notes' status.Done result noted h bytes e unbroken = same_or_failure status.Done result notes notes' noted
 builds_unbroken name files files' out out' notes notes' (status.Refused phase line rule) result noted h bytes e unbroken =
-    absurd (unbroken phase line.0 rule.0 (subst (λ (b : List ℕ). IsBroken b phase line.0 rule.0) (one_told (files.file name) h.1.0.bytes bytes h.1.0.is e) h.1.0.holds.broken))
+    absurd (unbroken phase line.0 rule.0 (subst (λ (b : List ℕ). IsBroken b phase line.0 rule.0) (one_told (files.file name) h.1.bytes bytes h.1.is e) h.1.holds.broken))
 builds_unbroken name files files' out out' notes notes' status.ReadFault result noted h bytes e unbroken = inr (failure_stays status.ReadFault result notes notes' noted (inl refl))
 builds_unbroken name files files' out out' notes notes' status.WriteFault result noted h bytes e unbroken = inr (failure_stays status.WriteFault result notes notes' noted (inr (inl refl)))
 builds_unbroken name files files' out out' notes notes' status.Memory result noted h bytes e unbroken = inr (failure_stays status.Memory result notes notes' noted (inr (inr refl)))

@@ -48,7 +48,7 @@ module _ (functions : List Function) (final written : List ℕ) (extent : ℕ) (
     go = λ turns limit.
         turns_are functions final (configuration turns written (at v (flats (stmt.ForUp 1 (atom.Number (pos extent)) body ∷ more) ++ rest) braces)) limit
         (turns + (cost + (extent - 0))) (turns + (cost + extent)) (omega arith)
-        (upward_loop Between (points cost) functions 1 (atom.Number (pos extent)) body more extent rest braces (omega arith)
+        (upward_loop (points cost) functions 1 (atom.Number (pos extent)) body more extent rest braces (omega arith)
         (record {
           bounded = λ p is. refl;
           round = λ p within is next.
