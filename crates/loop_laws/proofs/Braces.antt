@@ -129,6 +129,9 @@ pub step_continue : ContinueStep
 unfolding step step_at do_line row_line control_line continue_line
 step_continue lines braces place closes functions v = ap (λ (p : Place). quiet (at v p.lines p.braces)) closes.by
 
+pub end_somewhere : (lines : List CodeLine) (braces : List Brace) → (place : Place) × ClosesAt lines braces place
+end_somewhere lines braces = (loop_end braces (exits lines), record { by = refl })
+
 pub end_behind : (body : List Stmt) {lines : List CodeLine} {braces : List Brace} {place : Place} → ClosesAt lines braces place → ClosesAt (flats body ++ lines) braces place
 end_behind body {lines} {braces} closes = record { by = ap (loop_end braces) (exits-flats body lines) ∙ closes.by }
 
@@ -150,4 +153,4 @@ end_in_loop lines (Downward k body) braces e = record { by = refl }
 end_in_loop lines (Forever body) braces e = record { by = refl }
 
 pub closing_laws : ClosingLaws
-closing_laws = record { behind = end_behind; in_branch = end_in_branch; in_choice = end_in_choice; in_loop = end_in_loop }
+closing_laws = record { somewhere = end_somewhere; behind = end_behind; in_branch = end_in_branch; in_choice = end_in_choice; in_loop = end_in_loop }

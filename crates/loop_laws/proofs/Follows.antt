@@ -1,6 +1,6 @@
 -- From forward at every number of turns to both directions: the run of a program is one, so where it is known to come it
 -- comes, and nothing else does.
-use Rattle.std.proofs.Common.{◌≡◌, ℕ, ◌+◌, ◌≤◌, List, [], ◌++◌, sym, ◌∙◌, ap, inl, inr, arith, append-nil}
+use Rattle.std.proofs.Common.{◌≡◌, ℕ, ◌+◌, ◌≤◌, List, [], ◌++◌, sym, ◌∙◌, ap, inl, inr, arith, append-nil, append_assoc}
 use Rattle.a95_base.specs.Outcome.{Stop, Outcome, Finished, Going, Run, IsPrefix}
 use Rattle.loop_tree.specs.declared.stuck.StuckState.{StuckState}
 use Rattle.loop_tree.specs.declared.tree.Function.{Function}
@@ -8,8 +8,9 @@ use Rattle.loop_tree.specs.State.{End, Comes, Stuck}
 use Rattle.loop_tree.specs.Run.{Configuration, configuration, Reaches, FinishesAt, GoesOnAt, Runs, start}
 use Rattle.loop_tree.proofs.Runs.{linear, last, not_past, grows}
 use Rattle.loop_tree.proofs.Outcomes.{one_outcome, end_stays, output_grows}
+use Rattle.loop_tree.proofs.Exists.{some_outcome}
 use Rattle.loop_laws.specs.Meets.{GoesPast, ComesTo}
-use Rattle.loop_laws.specs.Follows.{DoesForward, DoesBackward, as_program, FollowsBothWays}
+use Rattle.loop_laws.specs.Follows.{DoesForward, DoesBackward, as_program, FollowsBothWays, HasDone, WithMoreTurns}
 
 -- ---- runs that begin more turns than the limit
 
@@ -107,3 +108,20 @@ follows_both_ways source needs bound program s within = record {
   never_stuck = λ input turns written why runs. let run = source input turns in
       not_stuck program (configuration 0 [] (start program input)) (needs input turns) turns run.written written run.outcome why (s.meets input turns).by runs;
 }
+
+-- ---- more turns than the bound
+
+prefix_joins : (a b c : List ℕ) → IsPrefix a b → IsPrefix b c → IsPrefix a c
+prefix_joins a b c f g = record { more = f.more ++ g.more; is = g.is ∙ ap (λ (x : List ℕ). x ++ g.more) f.is ∙ append_assoc a f.more g.more }
+
+has_done : (functions : List Function) (begin : Configuration) (few more : ℕ) (written whole : List ℕ) (source : Outcome Stop) (outcome : Outcome End) → begin.turns ≤ few → few ≤ more →
+    DoesForward written source (λ other out. Runs functions begin few other out) → Runs functions begin more whole outcome → HasDone written source whole outcome
+has_done functions begin few more written whole (Finished stop) outcome some h does runs =
+    one_outcome functions begin more whole written outcome (Finished (Comes stop)) runs (end_stays functions begin few more written (Comes stop) h does)
+has_done functions begin few more written whole Going outcome some h does runs =
+    let before = some_outcome functions begin few some in
+    prefix_joins written before.written whole (does before.written before.outcome before.runs) (output_grows functions begin few more before.written whole before.outcome outcome h before.runs runs)
+
+pub with_more_turns : WithMoreTurns
+with_more_turns source bound program follows input turns more h written outcome runs =
+    has_done program (configuration 0 [] (start program input)) (bound turns) more (source input turns).written written (source input turns).outcome outcome (omega arith) h (follows.forward input turns) runs

@@ -4,3 +4,4 @@ pub mod Braces
 pub mod Meets
 pub mod Statements
 pub mod Follows
+pub mod Within

@@ -9,7 +9,7 @@ use Rattle.loop_tree.specs.Machine.{step, quiet, turn, given}
 use Rattle.loop_tree.specs.Run.{Configuration, configuration, after, Reaches}
 use Rattle.loop_tree.proofs.Runs.{stays, steps_once, joins}
 use Rattle.loop_laws.specs.At.{Variables, frame_of, at, returned}
-use Rattle.loop_laws.specs.Rows.{begins, leaving}
+use Rattle.loop_laws.specs.Rows.{leaving}
 use Rattle.loop_laws.specs.Meets.{Expected, ComesTo, ComesToSome, Meets, StepLaws, EndLaws}
 use Rattle.loop_laws.proofs.Rows.{leaves_to_caller, leaves_program}
 
@@ -54,17 +54,13 @@ pub gives : {A : Type 0} {functions : List Function} {turns : ℕ} {written : Li
     step functions s ≡ given result next → result ≡ Ok a → Meets functions (configuration turns written (next a)) e → Meets functions (configuration turns written s) e
 gives {A} {functions} {turns} {written} {s} {e} {result} {a} next is value m = silent (is ∙ ap (λ (r : Result A StuckState). given r next) value) m
 
-pub enters : {A : Type 0} {functions : List Function} {turns : ℕ} {written : List ℕ} {s : State} {e : Expected} {result : Result A StuckState} {a : A} (next : A → State) →
-    step functions s ≡ begins result next → result ≡ Ok a → Meets functions (configuration (turns + 1) written (next a)) e → Meets functions (configuration turns written s) e
-enters {A} {functions} {turns} {written} {s} {e} {result} {a} next is value m = turned (is ∙ ap (λ (r : Result A StuckState). begins r next) value) m
-
 pub returns : {functions : List Function} {turns : ℕ} {written : List ℕ} {s : State} {e : Expected} (v w : Variables) (lines : List CodeLine) (braces : List Brace) →
     step functions s ≡ leaving w → w.callers ≡ frame_of v lines braces ∷ v.callers →
     Meets functions (configuration turns written (at (returned v w) lines braces)) e → Meets functions (configuration turns written s) e
 returns v w lines braces is callers m = silent (is ∙ leaves_to_caller v w lines braces callers) m
 
 pub step_laws : (A : Type 0) → StepLaws A
-step_laws A = record { silent = silent; writes = writes; turned = turned; gives = gives; enters = enters; returns = returns }
+step_laws A = record { silent = silent; writes = writes; turned = turned; gives = gives; returns = returns }
 
 -- ---- ends
 
@@ -89,5 +85,8 @@ passes {functions} {turns} {written} {s} {e} is past within =
 pub anything : {functions : List Function} {start : Configuration} {e : Expected} → e.run ≡ None → Meets functions start e
 anything {functions} {start} {e} is = record { by = subst (λ (r : Option (Run End)). ComesToSome functions start e.limit e.turns r) (sym is) tt }
 
+pub told_as : {functions : List Function} {start : Configuration} {e f : Expected} → e ≡ f → Meets functions start f → Meets functions start e
+told_as {functions} {start} is m = subst (Meets functions start) (sym is) m
+
 pub end_laws : EndLaws
-end_laws = record { ends = ends; leaves = leaves; passes = passes; anything = anything }
+end_laws = record { ends = ends; leaves = leaves; passes = passes; told_as = told_as; anything = anything }

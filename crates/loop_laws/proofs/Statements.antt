@@ -1,12 +1,18 @@
 -- Statements in front of what the rest of a run comes to. The rounds of loops are gone through here, once.
-use Rattle.std.proofs.Common.{◌≡◌, ℕ, zero, suc, ◌+◌, ◌<◌, ◌≤◌, ◌^◌, Bool, true, false, List, ◌∷◌, ◌++◌, refl, ap, ◌∙◌, sym, subst, arith, pos, nat_lt, nat_le, if◌then◌else◌}
+use Rattle.std.proofs.Common.{◌≡◌, ℕ, zero, suc, ◌+◌, ◌<◌, ◌≤◌, ◌^◌, Bool, true, false, List, ◌∷◌, ◌++◌, Result, Ok, [], Some, refl, ap, ◌∙◌, sym, subst, arith, pos, nat_lt, nat_le, if◌then◌else◌}
 use Rattle.std.specs.Prelude.{negsuc, ◌+ℤ◌, ◌-ℤ◌, int_lt, int_le}
 use Rattle.std.specs.Int.{w64, int_wrap}
 use Rattle.std.proofs.Math.IntN.{ -ℤ_one}
 use Rattle.std.proofs.lemmas.Int.{int_wrap_fits}
 use Rattle.std.proofs.lemmas.Bool.Decides.{nat_tests}
+use Rattle.a95_base.specs.declared.fault.FaultKind.{FaultKind}
+use Rattle.a95_base.specs.Outcome.{Ended, Faulted, Finished}
+use Rattle.a95_base.specs.Record.{record_text}
+use Rattle.loop_tree.specs.declared.stuck.StuckState.{StuckState}
 use Rattle.loop_tree.specs.declared.atom.Atom.{Atom}
+use Rattle.loop_tree.specs.declared.atom.Argument.{Argument}
 use Rattle.loop_tree.specs.declared.row.ControlRow.TheVariants as control
+use Rattle.loop_tree.specs.declared.row.RecordRow.TheVariants as record_row
 use Rattle.loop_tree.specs.declared.row.Row.{Row}
 use Rattle.loop_tree.specs.declared.row.Row.TheVariants as row
 use Rattle.loop_tree.specs.declared.tree.CodeLine.{CodeLine}
@@ -14,18 +20,20 @@ use Rattle.loop_tree.specs.declared.tree.CodeLine.TheVariants as code
 use Rattle.loop_tree.specs.declared.tree.Stmt.{Stmt}
 use Rattle.loop_tree.specs.declared.tree.Stmt.TheVariants as stmt
 use Rattle.loop_tree.specs.declared.tree.Function.{Function}
-use Rattle.loop_tree.specs.Lines.{flats}
-use Rattle.loop_tree.specs.State.{Brace, Choice, Upward, Downward, Forever, State}
+use Rattle.loop_tree.specs.Lines.{flats, lines_of}
+use Rattle.loop_tree.specs.State.{Brace, Choice, Upward, Downward, Forever, State, Comes}
 use Rattle.loop_tree.specs.Values.{number_at, holds}
 use Rattle.loop_tree.specs.Machine.{step, Place, rest_of, quiet, turn}
 use Rattle.loop_tree.specs.Run.{configuration}
-use Rattle.loop_laws.specs.At.{Variables, at, value_of, with_index}
+use Rattle.loop_laws.specs.At.{Variables, frame_of, at, value_of, with_index, called, entered, returned}
+use Rattle.loop_laws.specs.Rows.{Gives, Leaves, begins}
 use Rattle.loop_laws.specs.Braces.{ClosesAt}
 use Rattle.loop_laws.specs.Meets.{Expected, Meets}
-use Rattle.loop_laws.specs.Statements.{MeetsAt, StatementLaws, Points, MeetsFrom, body_lines, UpwardRounds, UpwardLoop, index_below, DownwardRounds, DownwardLoop, EndlessRounds, EndlessLoop}
+use Rattle.loop_laws.specs.Statements.{MeetsAt, RowLaws, StatementLaws, Points, MeetsFrom, body_lines, UpwardRounds, UpwardLoop, index_below, DownwardRounds, DownwardLoop, EndlessRounds, EndlessLoop}
 use Rattle.loop_laws.proofs.Numbered.{with_at_same}
 use Rattle.loop_laws.proofs.Braces.{split, first_row, first_if, first_if_else, first_up, first_down, first_forever, step_if, step_if_else, step_else, step_choice_end, step_up, step_up_end, step_down, step_down_end, step_forever, step_forever_end, step_break, step_continue, end_behind}
-use Rattle.loop_laws.proofs.Meets.{silent, turned}
+use Rattle.loop_laws.proofs.Rows.{step_write, step_call, step_return, step_last_brace, step_stop, step_fault}
+use Rattle.loop_laws.proofs.Meets.{silent, turned, gives, writes, returns, ends, leaves}
 
 -- other lines that are the same
 pub with_lines : {functions : List Function} {turns : ℕ} {written : List ℕ} {v : Variables} {lines new : List CodeLine} {braces : List Brace} {e : Expected} → lines ≡ new →
@@ -39,6 +47,20 @@ both a b lines m = with_lines (split a b lines) m
 pub first : {functions : List Function} {turns : ℕ} {written : List ℕ} {v : Variables} {braces : List Brace} {e : Expected} (r : Row) (more : List Stmt) (lines : List CodeLine) →
     MeetsAt functions turns written v (code.Row r ∷ (flats more ++ lines)) braces e → MeetsAt functions turns written v (flats (stmt.Row r ∷ more) ++ lines) braces e
 first r more lines m = with_lines (first_row r more lines) m
+
+-- a row that gives a value, and one that leaves the variables so
+pub gives_row : {A : Type 0} {functions : List Function} {turns : ℕ} {written : List ℕ} {v : Variables} {braces : List Brace} {e : Expected} {r : Row} {value : Variables → Result A StuckState} {change : Variables → A → Variables} {a : A} →
+    Gives r value change → (more : List Stmt) (lines : List CodeLine) → value v ≡ Ok a →
+    MeetsAt functions turns written (change v a) (flats more ++ lines) braces e → MeetsAt functions turns written v (flats (stmt.Row r ∷ more) ++ lines) braces e
+gives_row {functions = functions} {v = v} {braces = braces} {r = r} is more lines read m = first r more lines (gives _ (is.by functions v (flats more ++ lines) braces) read m)
+
+pub leaves_row : {functions : List Function} {turns : ℕ} {written : List ℕ} {v : Variables} {braces : List Brace} {e : Expected} {r : Row} {change : Variables → Variables} →
+    Leaves r change → (more : List Stmt) (lines : List CodeLine) →
+    MeetsAt functions turns written (change v) (flats more ++ lines) braces e → MeetsAt functions turns written v (flats (stmt.Row r ∷ more) ++ lines) braces e
+leaves_row {functions = functions} {v = v} {braces = braces} {r = r} is more lines m = first r more lines (silent (is.by functions v (flats more ++ lines) braces) m)
+
+pub row_laws : (A : Type 0) → RowLaws A
+row_laws A = record { gives = gives_row; leaves = leaves_row }
 
 -- ---- choice
 
@@ -84,16 +106,71 @@ pub continues : {functions : List Function} {turns : ℕ} {written : List ℕ} {
 continues {functions} {turns} {written} {v} {lines} {braces} {e} {place} more closes m =
     first (row.Control control.Continue) more lines (silent (step_continue (flats more ++ lines) braces place (end_behind more closes) functions v) m)
 
+-- ---- what is written, calls, and ends
+
+pub writes_record : {functions : List Function} {turns : ℕ} {written : List ℕ} {v : Variables} {braces : List Brace} {e : Expected} (more : List Stmt) (lines : List CodeLine) →
+    MeetsAt functions turns (written ++ (record_text v.pending ++ 10 ∷ [])) (record v { pending = [] }) (flats more ++ lines) braces e →
+    MeetsAt functions turns written v (flats (stmt.Row (row.Record record_row.Write) ∷ more) ++ lines) braces e
+writes_record {functions} {turns} {written} {v} {braces} more lines m = first (row.Record record_row.Write) more lines (writes (step_write functions v (flats more ++ lines) braces) m)
+
+pub calls : {functions : List Function} {turns : ℕ} {written : List ℕ} {v : Variables} {braces : List Brace} {e : Expected} (n : ℕ) (arguments : List Argument) (f : Function) (more : List Stmt) (lines : List CodeLine) →
+    called functions v n arguments ≡ Ok f →
+    MeetsAt functions (turns + 1) written (entered v (flats more ++ lines) braces arguments) (flats f.body ++ code.Close ∷ []) [] e →
+    MeetsAt functions turns written v (flats (stmt.Row (row.Control (control.Call n arguments)) ∷ more) ++ lines) braces e
+calls {functions} {turns} {written} {v} {braces} n arguments f more lines there m =
+    first (row.Control (control.Call n arguments)) more lines
+    (turned (step_call n arguments functions v (flats more ++ lines) braces ∙ ap (λ (r : Result Function StuckState). begins r (λ g. at (entered v (flats more ++ lines) braces arguments) (lines_of g) [])) there) m)
+
+pub returns_early : {functions : List Function} {turns : ℕ} {written : List ℕ} {e : Expected} {inner : List Brace} (v w : Variables) (lines : List CodeLine) (braces : List Brace) (more : List Stmt) (behind : List CodeLine) →
+    w.callers ≡ frame_of v lines braces ∷ v.callers → MeetsAt functions turns written (returned v w) lines braces e →
+    MeetsAt functions turns written w (flats (stmt.Row (row.Control control.Return) ∷ more) ++ behind) inner e
+returns_early {functions} {inner = inner} v w lines braces more behind callers m =
+    first (row.Control control.Return) more behind (returns v w lines braces (step_return functions w (flats more ++ behind) inner) callers m)
+
+pub returns_last : {functions : List Function} {turns : ℕ} {written : List ℕ} {e : Expected} (v w : Variables) (lines : List CodeLine) (braces : List Brace) (behind : List CodeLine) →
+    w.callers ≡ frame_of v lines braces ∷ v.callers → MeetsAt functions turns written (returned v w) lines braces e →
+    MeetsAt functions turns written w (code.Close ∷ behind) [] e
+returns_last {functions} v w lines braces behind callers m = returns v w lines braces (step_last_brace functions w behind) callers m
+
+pub stops : {functions : List Function} {turns : ℕ} {written : List ℕ} {v : Variables} {braces : List Brace} {e : Expected} (more : List Stmt) (lines : List CodeLine) →
+    e.run ≡ Some (record { written = written; outcome = Finished (Comes Ended) }) → turns ≤ e.turns →
+    MeetsAt functions turns written v (flats (stmt.Row (row.Control control.Stop) ∷ more) ++ lines) braces e
+stops {functions} {turns} {written} {v} {braces} more lines is within = first (row.Control control.Stop) more lines (ends (step_stop functions v (flats more ++ lines) braces) is within)
+
+pub faults : {functions : List Function} {turns : ℕ} {written : List ℕ} {v : Variables} {braces : List Brace} {e : Expected} (kind : FaultKind) (more : List Stmt) (lines : List CodeLine) →
+    e.run ≡ Some (record { written = written; outcome = Finished (Comes (Faulted kind v.line)) }) → turns ≤ e.turns →
+    MeetsAt functions turns written v (flats (stmt.Row (row.Control (control.Fault kind)) ∷ more) ++ lines) braces e
+faults {functions} {turns} {written} {v} {braces} kind more lines is within = first (row.Control (control.Fault kind)) more lines (ends (step_fault kind functions v (flats more ++ lines) braces) is within)
+
+pub ends_last : {functions : List Function} {turns : ℕ} {written : List ℕ} {v : Variables} {e : Expected} (behind : List CodeLine) → v.callers ≡ [] →
+    e.run ≡ Some (record { written = written; outcome = Finished (Comes Ended) }) → turns ≤ e.turns →
+    MeetsAt functions turns written v (code.Close ∷ behind) [] e
+ends_last {functions} {v = v} behind callers is within = leaves v (step_last_brace functions v behind) callers is within
+
 pub statement_laws : StatementLaws
-statement_laws = record { both = both; first = first; chooses = chooses; chooses_either = chooses_either; past_else = past_else; past_close = past_close; breaks = breaks; continues = continues }
+statement_laws = record {
+  both = both;
+  first = first;
+  chooses = chooses;
+  chooses_either = chooses_either;
+  past_else = past_else;
+  past_close = past_close;
+  breaks = breaks;
+  continues = continues;
+  writes_record = writes_record;
+  calls = calls;
+  returns_early = returns_early;
+  returns_last = returns_last;
+  stops = stops;
+  faults = faults;
+  ends_last = ends_last;
+}
 
 -- ---- loops
 
 -- what a loop variable goes through
-next_index : (i : ℕ) → i + 1 < 2 ^ 63 → int_wrap w64 (pos i +ℤ pos 1) ≡ pos (suc i)
-next_index i h =
-    let one : i + 1 ≡ suc i = omega arith in
-    int_wrap_fits w64 (pos (i + 1)) (omega arith) ∙ ap pos one
+next_index : (i : ℕ) → i + 1 < 2 ^ 63 → int_wrap w64 (pos i +ℤ pos 1) ≡ pos (i + 1)
+next_index i h = int_wrap_fits w64 (pos (i + 1)) (omega arith)
 
 index_before : (j : ℕ) → j < 2 ^ 63 → int_wrap w64 (pos j -ℤ pos 1) ≡ index_below j
 index_before zero h = int_wrap_fits w64 (negsuc 0) (omega arith)
@@ -150,7 +227,7 @@ module _ {P : Type 0} (points : Points P) (functions : List Function) (k : ℕ) 
       let now : number_at (points.variables p).indices k ≡ pos j = ap (λ (x : Variables). number_at x.indices k) is ∙ index in
       let small_number : j < 2 ^ 63 = omega arith in
       turned (next ∙ rw (not_negative j)) (subst (λ (x : Variables). MeetsAt functions (points.turns p + 1) (points.written p) x (body_lines body lines) (Downward k (body_lines body lines) ∷ braces) (points.expected p)) is
-      (r.round p j (omega arith) number now (λ q w fewer there variables.
+      (r.round p j (omega arith) (omega (arith, number)) now (λ q w fewer there variables.
       let z = int_wrap w64 (number_at w.indices k -ℤ pos 1) in
       let one : z ≡ index_below j = ap (λ i. int_wrap w64 (i -ℤ pos 1)) there ∙ index_before j small_number in
       let same : with_index w k (index_below j) ≡ with_index w k z = ap (with_index w k) (sym one) in

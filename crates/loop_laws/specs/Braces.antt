@@ -129,8 +129,9 @@ is_loop (Upward k bound body) = true
 is_loop (Downward k body) = true
 is_loop (Forever body) = true
 
--- in front of whole statements, in the branches of a choice, and in a loop
+-- somewhere, where it makes no difference; in front of whole statements, in the branches of a choice, and in a loop
 pub record ClosingLaws : Type 0 where
+  pub somewhere : (lines : List CodeLine) (braces : List Brace) → (place : Place) × ClosesAt lines braces place
   pub behind : (body : List Stmt) {lines : List CodeLine} {braces : List Brace} {place : Place} → ClosesAt lines braces place → ClosesAt (flats body ++ lines) braces place
   pub in_branch : (other : List Stmt) {lines : List CodeLine} {braces : List Brace} {place : Place} → ClosesAt lines braces place →
       ClosesAt (code.Else ∷ (flats other ++ code.Close ∷ lines)) (Choice ∷ braces) place

@@ -46,3 +46,13 @@ pub record Simulates (source : Source) (needs : List ℕ → ℕ → ℕ) (progr
 abbrev pub FollowsBothWays : Type 0
 FollowsBothWays = (source : Source) (needs : List ℕ → ℕ → ℕ) (bound : ℕ → ℕ) (program : List Function) →
     Simulates source needs program → ((input : List ℕ) (turns : ℕ) → needs input turns ≤ bound turns) → Follows source bound program
+
+-- what a run has done that has at least the turns that the bound asks for: what the source ends or faults with, and all that
+-- the source has written while that goes on
+abbrev pub HasDone : List ℕ → Outcome Stop → List ℕ → Outcome End → Type 0
+HasDone written (Finished stop) whole outcome = (whole ≡ written) × (outcome ≡ Finished (Comes stop))
+HasDone written Going whole outcome = IsPrefix written whole
+
+abbrev pub WithMoreTurns : Type 0
+WithMoreTurns = (source : Source) (bound : ℕ → ℕ) (program : List Function) → Follows source bound program → (input : List ℕ) (turns more : ℕ) → bound turns ≤ more →
+    (written : List ℕ) (outcome : Outcome End) → Mach program input more written outcome → HasDone (source input turns).written (source input turns).outcome written outcome

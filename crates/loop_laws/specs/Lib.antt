@@ -5,3 +5,4 @@ pub mod Numbered
 pub mod Meets
 pub mod Statements
 pub mod Follows
+pub mod Within

@@ -9,7 +9,7 @@ use Rattle.loop_tree.specs.State.{Brace, State, End, Comes, Goes, Ends}
 use Rattle.loop_tree.specs.Machine.{step, quiet, turn, given}
 use Rattle.loop_tree.specs.Run.{Configuration, configuration, Reaches, FinishesAt}
 use Rattle.loop_laws.specs.At.{Variables, frame_of, at, returned}
-use Rattle.loop_laws.specs.Rows.{begins, leaving}
+use Rattle.loop_laws.specs.Rows.{leaving}
 
 -- From a configuration on a run begins more turns than the limit, and where it has written this, no more than so many.
 pub record GoesPast (functions : List Function) (start : Configuration) (limit turns : ℕ) (written : List ℕ) : Type 0 where
@@ -51,11 +51,9 @@ pub record StepLaws (A : Type 0) : Type 0 where
       Meets functions (configuration turns (written ++ bytes) t) e → Meets functions (configuration turns written s) e
   pub turned : {functions : List Function} {turns : ℕ} {written : List ℕ} {s t : State} {e : Expected} → step functions s ≡ turn t →
       Meets functions (configuration (turns + 1) written t) e → Meets functions (configuration turns written s) e
-  -- a row with a value, and a call of a function that is there
+  -- one that a value decides
   pub gives : {functions : List Function} {turns : ℕ} {written : List ℕ} {s : State} {e : Expected} {result : Result A StuckState} {a : A} (next : A → State) →
       step functions s ≡ given result next → result ≡ Ok a → Meets functions (configuration turns written (next a)) e → Meets functions (configuration turns written s) e
-  pub enters : {functions : List Function} {turns : ℕ} {written : List ℕ} {s : State} {e : Expected} {result : Result A StuckState} {a : A} (next : A → State) →
-      step functions s ≡ begins result next → result ≡ Ok a → Meets functions (configuration (turns + 1) written (next a)) e → Meets functions (configuration turns written s) e
   -- a call is left: its caller goes on, and the blocks that it made are freed
   pub returns : {functions : List Function} {turns : ℕ} {written : List ℕ} {s : State} {e : Expected} (v w : Variables) (lines : List CodeLine) (braces : List Brace) →
       step functions s ≡ leaving w → w.callers ≡ frame_of v lines braces ∷ v.callers →
@@ -72,4 +70,6 @@ pub record EndLaws : Type 0 where
   -- more turns are begun than the limit
   pub passes : {functions : List Function} {turns : ℕ} {written : List ℕ} {s : State} {e : Expected} →
       e.run ≡ Some (record { written = written; outcome = Going }) → e.limit < turns → turns ≤ e.turns → Meets functions (configuration turns written s) e
+  -- what is expected may be told otherwise
+  pub told_as : {functions : List Function} {start : Configuration} {e f : Expected} → e ≡ f → Meets functions start f → Meets functions start e
   pub anything : {functions : List Function} {start : Configuration} {e : Expected} → e.run ≡ None → Meets functions start e

@@ -38,12 +38,12 @@ abbrev pub RowStep : Row → (List Function → Variables → List CodeLine → 
 RowStep r next = LineStep (code.Row r) next
 
 -- a row that gives a value, or is stuck, and leaves the variables changed by it
-abbrev pub Gives : {A : Type 0} → Row → (Variables → Result A StuckState) → (Variables → A → Variables) → Type 0
-Gives r value change = RowStep r (λ functions v lines braces. given (value v) (λ a. at (change v a) lines braces))
+pub record Gives {A : Type 0} (r : Row) (value : Variables → Result A StuckState) (change : Variables → A → Variables) : Type 0 where
+  pub by : RowStep r (λ functions v lines braces. given (value v) (λ a. at (change v a) lines braces))
 
 -- a row that leaves the variables so
-abbrev pub Leaves : Row → (Variables → Variables) → Type 0
-Leaves r change = RowStep r (λ functions v lines braces. quiet (at (change v) lines braces))
+pub record Leaves (r : Row) (change : Variables → Variables) : Type 0 where
+  pub by : RowStep r (λ functions v lines braces. quiet (at (change v) lines braces))
 
 -- ---- integers and texts
 

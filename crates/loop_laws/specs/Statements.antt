@@ -1,7 +1,13 @@
 -- What a run comes to from before a statement, where it is known what it comes to from where the statement leads.
-use Rattle.std.specs.Prelude.{◌≡◌, ℕ, zero, suc, ◌+◌, ◌<◌, ◌^◌, ℤ, pos, negsuc, true, false, List, ◌∷◌, ◌++◌}
+use Rattle.std.specs.Prelude.{◌≡◌, ℕ, zero, suc, ◌+◌, ◌<◌, ◌^◌, ℤ, pos, negsuc, true, false, List, ◌∷◌, ◌++◌, Result, Ok, Some, ◌≤◌, []}
+use Rattle.a95_base.specs.declared.fault.FaultKind.{FaultKind}
+use Rattle.a95_base.specs.Outcome.{Ended, Faulted, Finished}
+use Rattle.a95_base.specs.Record.{record_text}
+use Rattle.loop_tree.specs.declared.stuck.StuckState.{StuckState}
 use Rattle.loop_tree.specs.declared.atom.Atom.{Atom}
+use Rattle.loop_tree.specs.declared.atom.Argument.{Argument}
 use Rattle.loop_tree.specs.declared.row.ControlRow.TheVariants as control
+use Rattle.loop_tree.specs.declared.row.RecordRow.TheVariants as record_row
 use Rattle.loop_tree.specs.declared.row.Row.{Row}
 use Rattle.loop_tree.specs.declared.row.Row.TheVariants as row
 use Rattle.loop_tree.specs.declared.tree.CodeLine.{CodeLine}
@@ -10,17 +16,27 @@ use Rattle.loop_tree.specs.declared.tree.Stmt.{Stmt}
 use Rattle.loop_tree.specs.declared.tree.Stmt.TheVariants as stmt
 use Rattle.loop_tree.specs.declared.tree.Function.{Function}
 use Rattle.loop_tree.specs.Lines.{flats}
-use Rattle.loop_tree.specs.State.{Brace, Choice, Upward, Downward, Forever}
+use Rattle.loop_tree.specs.State.{Brace, Choice, Upward, Downward, Forever, Comes}
 use Rattle.loop_tree.specs.Values.{number_at, holds}
 use Rattle.loop_tree.specs.Machine.{Place, rest_of}
 use Rattle.loop_tree.specs.Run.{configuration}
-use Rattle.loop_laws.specs.At.{Variables, at, value_of, with_index}
+use Rattle.loop_laws.specs.At.{Variables, frame_of, at, value_of, with_index, called, entered, returned}
+use Rattle.loop_laws.specs.Rows.{Gives, Leaves}
 use Rattle.loop_laws.specs.Braces.{ClosesAt}
 use Rattle.loop_laws.specs.Meets.{Expected, Meets}
 
 -- the run that has begun so many turns and written this, with these variables before these lines within these braces
 abbrev pub MeetsAt : List Function → ℕ → List ℕ → Variables → List CodeLine → List Brace → Expected → Type 0
 MeetsAt functions turns written v lines braces e = Meets functions (configuration turns written (at v lines braces)) e
+
+-- a row that gives a value, and one that leaves the variables changed
+pub record RowLaws (A : Type 0) : Type 0 where
+  pub gives : {functions : List Function} {turns : ℕ} {written : List ℕ} {v : Variables} {braces : List Brace} {e : Expected} {r : Row} {value : Variables → Result A StuckState} {change : Variables → A → Variables} {a : A} →
+      Gives r value change → (more : List Stmt) (lines : List CodeLine) → value v ≡ Ok a →
+      MeetsAt functions turns written (change v a) (flats more ++ lines) braces e → MeetsAt functions turns written v (flats (stmt.Row r ∷ more) ++ lines) braces e
+  pub leaves : {functions : List Function} {turns : ℕ} {written : List ℕ} {v : Variables} {braces : List Brace} {e : Expected} {r : Row} {change : Variables → Variables} →
+      Leaves r change → (more : List Stmt) (lines : List CodeLine) →
+      MeetsAt functions turns written (change v) (flats more ++ lines) braces e → MeetsAt functions turns written v (flats (stmt.Row r ∷ more) ++ lines) braces e
 
 pub record StatementLaws : Type 0 where
   -- the lines of two lists of statements, and of a row in front of others
@@ -49,6 +65,30 @@ pub record StatementLaws : Type 0 where
   pub continues : {functions : List Function} {turns : ℕ} {written : List ℕ} {v : Variables} {lines : List CodeLine} {braces : List Brace} {e : Expected} {place : Place} (more : List Stmt) →
       ClosesAt lines braces place → MeetsAt functions turns written v place.lines place.braces e →
       MeetsAt functions turns written v (flats (stmt.Row (row.Control control.Continue) ∷ more) ++ lines) braces e
+  -- what is written, a call of a function that is there, and where it is left
+  pub writes_record : {functions : List Function} {turns : ℕ} {written : List ℕ} {v : Variables} {braces : List Brace} {e : Expected} (more : List Stmt) (lines : List CodeLine) →
+      MeetsAt functions turns (written ++ (record_text v.pending ++ 10 ∷ [])) (record v { pending = [] }) (flats more ++ lines) braces e →
+      MeetsAt functions turns written v (flats (stmt.Row (row.Record record_row.Write) ∷ more) ++ lines) braces e
+  pub calls : {functions : List Function} {turns : ℕ} {written : List ℕ} {v : Variables} {braces : List Brace} {e : Expected} (n : ℕ) (arguments : List Argument) (f : Function) (more : List Stmt) (lines : List CodeLine) →
+      called functions v n arguments ≡ Ok f →
+      MeetsAt functions (turns + 1) written (entered v (flats more ++ lines) braces arguments) (flats f.body ++ code.Close ∷ []) [] e →
+      MeetsAt functions turns written v (flats (stmt.Row (row.Control (control.Call n arguments)) ∷ more) ++ lines) braces e
+  pub returns_early : {functions : List Function} {turns : ℕ} {written : List ℕ} {e : Expected} {inner : List Brace} (v w : Variables) (lines : List CodeLine) (braces : List Brace) (more : List Stmt) (behind : List CodeLine) →
+      w.callers ≡ frame_of v lines braces ∷ v.callers → MeetsAt functions turns written (returned v w) lines braces e →
+      MeetsAt functions turns written w (flats (stmt.Row (row.Control control.Return) ∷ more) ++ behind) inner e
+  pub returns_last : {functions : List Function} {turns : ℕ} {written : List ℕ} {e : Expected} (v w : Variables) (lines : List CodeLine) (braces : List Brace) (behind : List CodeLine) →
+      w.callers ≡ frame_of v lines braces ∷ v.callers → MeetsAt functions turns written (returned v w) lines braces e →
+      MeetsAt functions turns written w (code.Close ∷ behind) [] e
+  -- the end of the program, and a fault at the line that was set
+  pub stops : {functions : List Function} {turns : ℕ} {written : List ℕ} {v : Variables} {braces : List Brace} {e : Expected} (more : List Stmt) (lines : List CodeLine) →
+      e.run ≡ Some (record { written = written; outcome = Finished (Comes Ended) }) → turns ≤ e.turns →
+      MeetsAt functions turns written v (flats (stmt.Row (row.Control control.Stop) ∷ more) ++ lines) braces e
+  pub faults : {functions : List Function} {turns : ℕ} {written : List ℕ} {v : Variables} {braces : List Brace} {e : Expected} (kind : FaultKind) (more : List Stmt) (lines : List CodeLine) →
+      e.run ≡ Some (record { written = written; outcome = Finished (Comes (Faulted kind v.line)) }) → turns ≤ e.turns →
+      MeetsAt functions turns written v (flats (stmt.Row (row.Control (control.Fault kind)) ∷ more) ++ lines) braces e
+  pub ends_last : {functions : List Function} {turns : ℕ} {written : List ℕ} {v : Variables} {e : Expected} (behind : List CodeLine) → v.callers ≡ [] →
+      e.run ≡ Some (record { written = written; outcome = Finished (Comes Ended) }) → turns ≤ e.turns →
+      MeetsAt functions turns written v (code.Close ∷ behind) [] e
 
 -- ---- loops
 
@@ -79,7 +119,7 @@ body_lines body lines = flats body ++ code.Close ∷ lines
 pub record UpwardRounds (P : Type 0) (points : Points P) (functions : List Function) (k : ℕ) (bound : Atom) (body : List Stmt) (count : ℕ) (lines : List CodeLine) (braces : List Brace) : Type 0 where
   pub bounded : (p : P) → number_at (points.variables p).indices k ≡ pos (points.number p) → value_of (points.variables p) bound ≡ pos count
   pub round : (p : P) → points.number p < count → number_at (points.variables p).indices k ≡ pos (points.number p) →
-      ((q : P) (w : Variables) → points.number q ≡ suc (points.number p) → number_at w.indices k ≡ pos (points.number p) → points.variables q ≡ with_index w k (pos (points.number q)) →
+      ((q : P) (w : Variables) → points.number q ≡ points.number p + 1 → number_at w.indices k ≡ pos (points.number p) → points.variables q ≡ with_index w k (pos (points.number q)) →
       MeetsFrom functions points q w (code.Close ∷ lines) (Upward k bound (body_lines body lines) ∷ braces)) →
       MeetsInRound functions points p (body_lines body lines) (Upward k bound (body_lines body lines) ∷ braces)
   pub left : (p : P) → points.number p ≡ count → MeetsFrom functions points p (points.variables p) lines braces
@@ -96,7 +136,7 @@ index_below zero = negsuc 0
 index_below (suc j) = pos j
 
 pub record DownwardRounds (P : Type 0) (points : Points P) (functions : List Function) (k : ℕ) (body : List Stmt) (count : ℕ) (lines : List CodeLine) (braces : List Brace) : Type 0 where
-  pub round : (p : P) (j : ℕ) → j < count → points.number p ≡ suc j → number_at (points.variables p).indices k ≡ pos j →
+  pub round : (p : P) (j : ℕ) → j < count → points.number p ≡ j + 1 → number_at (points.variables p).indices k ≡ pos j →
       ((q : P) (w : Variables) → points.number q ≡ j → number_at w.indices k ≡ pos j → points.variables q ≡ with_index w k (index_below j) →
       MeetsFrom functions points q w (code.Close ∷ lines) (Downward k (body_lines body lines) ∷ braces)) →
       MeetsInRound functions points p (body_lines body lines) (Downward k (body_lines body lines) ∷ braces)

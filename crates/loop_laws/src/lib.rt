@@ -15,10 +15,11 @@ mod numbers;
 mod runs;
 mod steps;
 
-pub use directions::follows_both_ways;
+pub use directions::{follows_both_ways, with_more_turns};
 pub use flow::{choices, closing_braces, leaving_loops, lines_of_statements, loops};
-pub use numbers::{blocks_by_number, variables_by_number};
+pub use numbers::{blocks_by_number, living_blocks, values_within, variables_by_number};
 pub use runs::{
-    downward_loop, endless_loop, ends, statements_in_front, steps_in_front, upward_loop,
+    downward_loop, endless_loop, ends, rows_in_front, statements_in_front, steps_in_front,
+    upward_loop,
 };
 pub use steps::{calls, integers_and_texts, new_blocks, records_and_ends, stores_and_references};

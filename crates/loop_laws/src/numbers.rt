@@ -1,6 +1,17 @@
-//! Variables and blocks by their numbers.
+//! Variables and blocks by their numbers, and what is read and changed where nothing is wrong.
 
+ghost use Rattle.loop_laws.specs.Within.{CellsThere, IntsThere, TextsThere, ChangeThere, FreedThere, IntWithin, TextWithin, StoreIntWithin, StoreTextWithin, ZerosWithin, TextsWithin, GrownWithin, TruthHolds, PositiveHolds};
 ghost use Rattle.loop_laws.specs.Numbered.{SetHere, SetElsewhere, MadeHere, MadeElsewhere, ChangedHere, ChangedElsewhere, FreedHere, FreedElsewhere, MadeInCall, MadeBeforeCall};
+
+/// What a reference to a living block gives, and what changes and freeing leave.
+#[tactic(auto, using(crate::proofs::Within::cells_there, crate::proofs::Within::ints_there, crate::proofs::Within::texts_there, crate::proofs::Within::change_there, crate::proofs::Within::freed_there))]
+pub fn living_blocks()
+    ensures cells { CellsThere }
+    ensures ints { IntsThere }
+    ensures texts { TextsThere }
+    ensures change { ChangeThere }
+    ensures free { FreedThere }
+{}
 
 /// A variable that is set, and every other one.
 #[tactic(auto, using(crate::proofs::Numbered::with_at_same, crate::proofs::Numbered::with_at_other))]
@@ -20,4 +31,18 @@ pub fn blocks_by_number()
     ensures freed_elsewhere { FreedElsewhere }
     ensures made_in_call { MadeInCall }
     ensures made_before_call { MadeBeforeCall }
+{}
+
+/// An index within its block, a size that is allowed, and conditions that hold.
+#[tactic(auto, using(crate::proofs::Within::int_within, crate::proofs::Within::text_within, crate::proofs::Within::store_int_within, crate::proofs::Within::store_text_within, crate::proofs::Within::zeros_within, crate::proofs::Within::texts_within, crate::proofs::Within::grown_within, crate::proofs::Within::truth_holds, crate::proofs::Within::positive_holds))]
+pub fn values_within()
+    ensures int { IntWithin }
+    ensures text { TextWithin }
+    ensures store_int { StoreIntWithin }
+    ensures store_text { StoreTextWithin }
+    ensures zeros { ZerosWithin }
+    ensures texts { TextsWithin }
+    ensures grown { GrownWithin }
+    ensures truth { TruthHolds }
+    ensures positive { PositiveHolds }
 {}

@@ -1,7 +1,7 @@
 //! What a run comes to, proved from its end to its beginning.
 
 ghost use Rattle.loop_laws.specs.Meets.{StepLaws, EndLaws};
-ghost use Rattle.loop_laws.specs.Statements.{StatementLaws, UpwardLoop, DownwardLoop, EndlessLoop};
+ghost use Rattle.loop_laws.specs.Statements.{RowLaws, StatementLaws, UpwardLoop, DownwardLoop, EndlessLoop};
 
 /// A step in front of what the rest of a run comes to.
 #[tactic(auto, using(crate::proofs::Meets::step_laws))]
@@ -13,6 +13,12 @@ pub fn steps_in_front<A>()
 #[tactic(auto, using(crate::proofs::Meets::end_laws))]
 pub fn ends()
     ensures { EndLaws }
+{}
+
+/// A row in front of what the rest of a run comes to.
+#[tactic(auto, using(crate::proofs::Statements::row_laws))]
+pub fn rows_in_front<A>()
+    ensures { RowLaws A }
 {}
 
 /// A statement in front of what the rest of a run comes to.

@@ -3,14 +3,12 @@
 ghost use Rattle.loop_laws.specs.Rows.{IntStep, TextStep, StoreIntStep, StoreTextStep, GrowStep, FreeStep, NewStep, TempStep, CopyStep, MarkStep, NewTextStep, TempTextStep, CopyTextStep, SameIntsStep, SameTextsStep, StopStep, FaultStep, SourceLineStep, PutIntStep, PutLogStep, PutTextStep, WriteStep, SkipStep, CallStep, ReturnStep, LastBraceStep, NoLineStep, LeavesToCaller, LeavesProgram};
 
 /// `iN = ..;` and `sN = ..;`, whatever stands on the right.
-#[tactic(auto, using(crate::proofs::Rows::step_int, crate::proofs::Rows::step_text))]
 pub fn integers_and_texts()
     ensures int { IntStep }
     ensures text { TextStep }
 {}
 
 /// A new block of integers or of texts has the next number, and the reference leads to it.
-#[tactic(auto, using(crate::proofs::Rows::step_new, crate::proofs::Rows::step_temp, crate::proofs::Rows::step_copy, crate::proofs::Rows::step_mark, crate::proofs::Rows::step_new_text, crate::proofs::Rows::step_temp_text, crate::proofs::Rows::step_copy_text))]
 pub fn new_blocks()
     ensures new { NewStep }
     ensures temporary { TempStep }
@@ -22,7 +20,6 @@ pub fn new_blocks()
 {}
 
 /// Rows that change or free a block, and those that let a reference lead where another one does.
-#[tactic(auto, using(crate::proofs::Rows::step_store_int, crate::proofs::Rows::step_store_text, crate::proofs::Rows::step_grow, crate::proofs::Rows::step_free, crate::proofs::Rows::step_same_ints, crate::proofs::Rows::step_same_texts))]
 pub fn stores_and_references()
     ensures store_int { StoreIntStep }
     ensures store_text { StoreTextStep }
@@ -33,7 +30,6 @@ pub fn stores_and_references()
 {}
 
 /// Records of the output and of the input, the line of the source, and what ends the program.
-#[tactic(auto, using(crate::proofs::Rows::step_put_int, crate::proofs::Rows::step_put_log, crate::proofs::Rows::step_put_text, crate::proofs::Rows::step_write, crate::proofs::Rows::step_skip, crate::proofs::Rows::step_source_line, crate::proofs::Rows::step_stop, crate::proofs::Rows::step_fault))]
 pub fn records_and_ends()
     ensures put_int { PutIntStep }
     ensures put_log { PutLogStep }
