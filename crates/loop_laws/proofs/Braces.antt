@@ -20,7 +20,8 @@ use Rattle.loop_laws.proofs.Numbered.{with_at_same}
 
 flats-append : (a b : List Stmt) → flats (a ++ b) ≡ flats a ++ flats b
 flats-append [] b = refl
-flats-append (s ∷ a) b = ap (λ (x : List CodeLine). flat s ++ x) (flats-append a b) ∙ sym (append_assoc (flat s) (flats a) (flats b))
+flats-append (s ∷ a) b = ap (λ (x : List CodeLine). flat s ++ x) (flats-append a b)
+    ∙ sym (append_assoc (flat s) (flats a) (flats b))
 
 pub split : Split
 split a b lines = ap (λ (x : List CodeLine). x ++ lines) (flats-append a b) ∙ append_assoc (flats a) (flats b) lines
@@ -29,45 +30,54 @@ pub first_row : FirstRow
 first_row r more lines = ap (λ (x : List CodeLine). (x ++ flats more) ++ lines) (flat-Row r)
 
 -- what stands behind a statement that closes a brace
-closed : (body : List CodeLine) (more : List Stmt) (lines : List CodeLine) → ((body ++ code.Close ∷ []) ++ flats more) ++ lines ≡ body ++ code.Close ∷ (flats more ++ lines)
-closed body more lines = append_assoc (body ++ code.Close ∷ []) (flats more) lines ∙ append_assoc body (code.Close ∷ []) (flats more ++ lines)
+closed : (body : List CodeLine) (more : List Stmt) (lines : List CodeLine) →
+    ((body ++ code.Close ∷ []) ++ flats more) ++ lines ≡ body ++ code.Close ∷ (flats more ++ lines)
+closed body more lines = append_assoc (body ++ code.Close ∷ []) (flats more) lines
+    ∙ append_assoc body (code.Close ∷ []) (flats more ++ lines)
 
 pub first_if : FirstIf
 first_if test body more lines =
-    ap (λ (x : List CodeLine). (x ++ flats more) ++ lines) (flat-If test body) ∙ ap (λ (x : List CodeLine). code.If test ∷ x) (closed (flats body) more lines)
+    ap (λ (x : List CodeLine). (x ++ flats more) ++ lines) (flat-If test body)
+    ∙ ap (λ (x : List CodeLine). code.If test ∷ x) (closed (flats body) more lines)
 
 pub first_if_else : FirstIfElse
 first_if_else test body other more lines =
     let last = flats other ++ code.Close ∷ [] in
     ap (λ (x : List CodeLine). (x ++ flats more) ++ lines) (flat-IfElse test body other)
     ∙ ap (λ (x : List CodeLine). code.If test ∷ x)
-    (append_assoc (flats body ++ code.Else ∷ last) (flats more) lines ∙ append_assoc (flats body) (code.Else ∷ last) (flats more ++ lines)
+    (append_assoc (flats body ++ code.Else ∷ last) (flats more) lines
+    ∙ append_assoc (flats body) (code.Else ∷ last) (flats more ++ lines)
     ∙ ap (λ (x : List CodeLine). flats body ++ code.Else ∷ x) (append_assoc (flats other) (code.Close ∷ []) (flats more ++ lines)))
 
 pub first_up : FirstUp
 first_up k bound body more lines =
-    ap (λ (x : List CodeLine). (x ++ flats more) ++ lines) (flat-ForUp k bound body) ∙ ap (λ (x : List CodeLine). code.ForUp k bound ∷ x) (closed (flats body) more lines)
+    ap (λ (x : List CodeLine). (x ++ flats more) ++ lines) (flat-ForUp k bound body)
+    ∙ ap (λ (x : List CodeLine). code.ForUp k bound ∷ x) (closed (flats body) more lines)
 
 pub first_down : FirstDown
 first_down k bound body more lines =
-    ap (λ (x : List CodeLine). (x ++ flats more) ++ lines) (flat-ForDown k bound body) ∙ ap (λ (x : List CodeLine). code.ForDown k bound ∷ x) (closed (flats body) more lines)
+    ap (λ (x : List CodeLine). (x ++ flats more) ++ lines) (flat-ForDown k bound body)
+    ∙ ap (λ (x : List CodeLine). code.ForDown k bound ∷ x) (closed (flats body) more lines)
 
 pub first_forever : FirstForever
 first_forever body more lines =
-    ap (λ (x : List CodeLine). (x ++ flats more) ++ lines) (flat-Forever body) ∙ ap (λ (x : List CodeLine). code.Forever ∷ x) (closed (flats body) more lines)
+    ap (λ (x : List CodeLine). (x ++ flats more) ++ lines) (flat-Forever body)
+    ∙ ap (λ (x : List CodeLine). code.Forever ∷ x) (closed (flats body) more lines)
 
 -- ---- choice
 
 pub step_if : IfStep
 unfolding step step_at do_line if_line
 step_if test body lines braces functions v =
-    ap (λ (es : List (List CodeLine)). if holds (value_of v test) then quiet (at v (flats body ++ code.Close ∷ lines) (Choice ∷ braces))
+    ap (λ (es : List (List CodeLine)). if holds (value_of v test)
+    then quiet (at v (flats body ++ code.Close ∷ lines) (Choice ∷ braces))
     else quiet (skip_choice (at v (flats body ++ code.Close ∷ lines) braces) (first_exit es))) (exits-body body lines)
 
 pub step_if_else : IfElseStep
 unfolding step step_at do_line if_line
 step_if_else test body lines braces functions v =
-    ap (λ (es : List (List CodeLine)). if holds (value_of v test) then quiet (at v (flats body ++ code.Else ∷ lines) (Choice ∷ braces))
+    ap (λ (es : List (List CodeLine)). if holds (value_of v test)
+    then quiet (at v (flats body ++ code.Else ∷ lines) (Choice ∷ braces))
     else quiet (skip_choice (at v (flats body ++ code.Else ∷ lines) braces) (first_exit es))) (exits-branch body lines)
 
 pub step_else : ElseStep
@@ -85,15 +95,18 @@ unfolding step step_at do_line for_up_line
 step_up k bound body lines braces functions v =
     let w = with_index v k (pos 0) in
     let inside = flats body ++ code.Close ∷ lines in
-    ap (λ (ls : List CodeLine). if int_lt (number_at w.indices k) (value_of w bound) then turn (at w inside (Upward k bound inside ∷ braces)) else quiet (at w ls braces)) (behind-body body lines)
-    ∙ ap (λ (z : ℤ). if int_lt z (value_of w bound) then turn (at w inside (Upward k bound inside ∷ braces)) else quiet (at w lines braces)) (with_at_same (pos 0) v.indices k (pos 0))
+    ap (λ (ls : List CodeLine). if int_lt (number_at w.indices k) (value_of w bound)
+    then turn (at w inside (Upward k bound inside ∷ braces)) else quiet (at w ls braces)) (behind-body body lines)
+    ∙ ap (λ (z : ℤ). if int_lt z (value_of w bound) then turn (at w inside (Upward k bound inside ∷ braces))
+    else quiet (at w lines braces)) (with_at_same (pos 0) v.indices k (pos 0))
 
 pub step_up_end : UpEndStep
 unfolding step step_at do_line close_line
 step_up_end k bound body lines braces functions v =
     let z = int_wrap w64 (number_at v.indices k +ℤ pos 1) in
     let w = with_index v k z in
-    ap (λ (i : ℤ). if int_lt i (value_of w bound) then turn (at w body (Upward k bound body ∷ braces)) else quiet (at w lines braces)) (with_at_same (pos 0) v.indices k z)
+    ap (λ (i : ℤ). if int_lt i (value_of w bound) then turn (at w body (Upward k bound body ∷ braces))
+    else quiet (at w lines braces)) (with_at_same (pos 0) v.indices k z)
 
 pub step_down : DownStep
 unfolding step step_at do_line for_down_line
@@ -101,15 +114,18 @@ step_down k bound body lines braces functions v =
     let z = int_wrap w64 (value_of v bound -ℤ pos 1) in
     let w = with_index v k z in
     let inside = flats body ++ code.Close ∷ lines in
-    ap (λ (ls : List CodeLine). if int_le (pos 0) (number_at w.indices k) then turn (at w inside (Downward k inside ∷ braces)) else quiet (at w ls braces)) (behind-body body lines)
-    ∙ ap (λ (i : ℤ). if int_le (pos 0) i then turn (at w inside (Downward k inside ∷ braces)) else quiet (at w lines braces)) (with_at_same (pos 0) v.indices k z)
+    ap (λ (ls : List CodeLine). if int_le (pos 0) (number_at w.indices k) then turn (at w inside (Downward k inside ∷ braces))
+    else quiet (at w ls braces)) (behind-body body lines)
+    ∙ ap (λ (i : ℤ). if int_le (pos 0) i then turn (at w inside (Downward k inside ∷ braces)) else quiet (at w lines braces))
+    (with_at_same (pos 0) v.indices k z)
 
 pub step_down_end : DownEndStep
 unfolding step step_at do_line close_line
 step_down_end k body lines braces functions v =
     let z = int_wrap w64 (number_at v.indices k -ℤ pos 1) in
     let w = with_index v k z in
-    ap (λ (i : ℤ). if int_le (pos 0) i then turn (at w body (Downward k body ∷ braces)) else quiet (at w lines braces)) (with_at_same (pos 0) v.indices k z)
+    ap (λ (i : ℤ). if int_le (pos 0) i then turn (at w body (Downward k body ∷ braces)) else quiet (at w lines braces))
+    (with_at_same (pos 0) v.indices k z)
 
 pub step_forever : ForeverStep
 unfolding step step_at do_line forever_line
@@ -132,15 +148,21 @@ step_continue lines braces place closes functions v = ap (λ (p : Place). quiet 
 pub end_somewhere : (lines : List CodeLine) (braces : List Brace) → (place : Place) × ClosesAt lines braces place
 end_somewhere lines braces = (loop_end braces (exits lines), record { by = refl })
 
-pub end_behind : (body : List Stmt) {lines : List CodeLine} {braces : List Brace} {place : Place} → ClosesAt lines braces place → ClosesAt (flats body ++ lines) braces place
+pub end_behind : (body : List Stmt) {lines : List CodeLine} {braces : List Brace} {place : Place} → ClosesAt lines braces place →
+    ClosesAt (flats body ++ lines) braces place
 end_behind body {lines} {braces} closes = record { by = ap (loop_end braces) (exits-flats body lines) ∙ closes.by }
 
-pub end_in_branch : (other : List Stmt) {lines : List CodeLine} {braces : List Brace} {place : Place} → ClosesAt lines braces place →
+pub end_in_branch : (other : List Stmt) {lines : List CodeLine} {braces : List Brace} {place : Place} →
+    ClosesAt lines braces place →
     ClosesAt (code.Else ∷ (flats other ++ code.Close ∷ lines)) (Choice ∷ braces) place
 unfolding loop_end exits
-end_in_branch other {lines} {braces} closes = record { by = ap (λ (es : List (List CodeLine)). loop_end braces (rest_of es)) (exits-body other lines) ∙ closes.by }
+end_in_branch other {lines} {braces} closes = record {
+  by =
+      ap (λ (es : List (List CodeLine)). loop_end braces (rest_of es)) (exits-body other lines) ∙ closes.by;
+}
 
-pub end_in_choice : {lines : List CodeLine} {braces : List Brace} {place : Place} → ClosesAt lines braces place → ClosesAt (code.Close ∷ lines) (Choice ∷ braces) place
+pub end_in_choice : {lines : List CodeLine} {braces : List Brace} {place : Place} → ClosesAt lines braces place →
+    ClosesAt (code.Close ∷ lines) (Choice ∷ braces) place
 unfolding loop_end exits
 end_in_choice closes = record { by = closes.by }
 
@@ -153,4 +175,11 @@ end_in_loop lines (Downward k body) braces e = record { by = refl }
 end_in_loop lines (Forever body) braces e = record { by = refl }
 
 pub closing_laws : ClosingLaws
-closing_laws = record { somewhere = end_somewhere; behind = end_behind; in_branch = end_in_branch; in_choice = end_in_choice; in_loop = end_in_loop }
+closing_laws = record {
+  somewhere = end_somewhere;
+  behind = end_behind;
+  in_branch = end_in_branch;
+  in_choice =
+      end_in_choice;
+  in_loop = end_in_loop;
+}

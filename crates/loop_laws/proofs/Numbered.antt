@@ -39,7 +39,8 @@ pub changed_here : ChangedHere
 changed_here [] n before c h = cc
 changed_here (b ∷ bs) n before c h = by (λ g. changed_here bs n before c g) (b.number == n) refl
   where
-    by : (cells_numbered bs n ≡ Some before → cells_numbered (with_cells bs n c) n ≡ Some c) → (t : Bool) → (b.number == n) ≡ t → cells_numbered (with_cells (b ∷ bs) n c) n ≡ Some c
+    by : (cells_numbered bs n ≡ Some before → cells_numbered (with_cells bs n c) n ≡ Some c) → (t : Bool) → (b.number == n) ≡ t →
+        cells_numbered (with_cells (b ∷ bs) n c) n ≡ Some c
     by more true e = rw e (rw (same n))
     by more false e = rw (e, e) (more (rw e at h))
 
@@ -47,7 +48,8 @@ pub changed_elsewhere : ChangedElsewhere
 changed_elsewhere [] n k c h = refl
 changed_elsewhere (b ∷ bs) n k c h = by (changed_elsewhere bs n k c h) (b.number == n) refl
   where
-    by : cells_numbered (with_cells bs n c) k ≡ cells_numbered bs k → (t : Bool) → (b.number == n) ≡ t → cells_numbered (with_cells (b ∷ bs) n c) k ≡ cells_numbered (b ∷ bs) k
+    by : cells_numbered (with_cells bs n c) k ≡ cells_numbered bs k → (t : Bool) → (b.number == n) ≡ t →
+        cells_numbered (with_cells (b ∷ bs) n c) k ≡ cells_numbered (b ∷ bs) k
     by more true e =
         let is : b.number ≡ n = grind (arith, nat_tests) in
         let new = apart n k h in
@@ -67,7 +69,8 @@ pub freed_elsewhere : FreedElsewhere
 freed_elsewhere [] n k h = refl
 freed_elsewhere (b ∷ bs) n k h = by (freed_elsewhere bs n k h) (b.number == n) refl
   where
-    by : cells_numbered (without bs n) k ≡ cells_numbered bs k → (t : Bool) → (b.number == n) ≡ t → cells_numbered (without (b ∷ bs) n) k ≡ cells_numbered (b ∷ bs) k
+    by : cells_numbered (without bs n) k ≡ cells_numbered bs k → (t : Bool) → (b.number == n) ≡ t →
+        cells_numbered (without (b ∷ bs) n) k ≡ cells_numbered (b ∷ bs) k
     by more true e =
         let is : b.number ≡ n = grind (arith, nat_tests) in
         let old : (b.number == k) ≡ false = apart b.number k (λ x. h (sym is ∙ x)) in
@@ -78,7 +81,8 @@ pub made_in_call : MadeInCall
 made_in_call [] mark n h = refl
 made_in_call (b ∷ bs) mark n h = by (made_in_call bs mark n h) (nat_lt b.number mark) refl
   where
-    by : cells_numbered (made_before bs mark) n ≡ None → (t : Bool) → nat_lt b.number mark ≡ t → cells_numbered (made_before (b ∷ bs) mark) n ≡ None
+    by : cells_numbered (made_before bs mark) n ≡ None → (t : Bool) → nat_lt b.number mark ≡ t →
+        cells_numbered (made_before (b ∷ bs) mark) n ≡ None
     by more true e =
         let less : b.number < mark = grind (arith, nat_tests) in
         let other : (b.number == n) ≡ false = apart b.number n (λ x. omega (arith, x)) in
@@ -89,7 +93,8 @@ pub made_before_call : MadeBeforeCall
 made_before_call [] mark n h = refl
 made_before_call (b ∷ bs) mark n h = by (made_before_call bs mark n h) (nat_lt b.number mark) refl
   where
-    by : cells_numbered (made_before bs mark) n ≡ cells_numbered bs n → (t : Bool) → nat_lt b.number mark ≡ t → cells_numbered (made_before (b ∷ bs) mark) n ≡ cells_numbered (b ∷ bs) n
+    by : cells_numbered (made_before bs mark) n ≡ cells_numbered bs n → (t : Bool) → nat_lt b.number mark ≡ t →
+        cells_numbered (made_before (b ∷ bs) mark) n ≡ cells_numbered (b ∷ bs) n
     by more true e = rw e (ap (λ (o : Option Cells). if b.number == n then Some b.cells else o) more)
     by more false e =
         let more_than : mark ≤ b.number = grind (arith, nat_tests) in

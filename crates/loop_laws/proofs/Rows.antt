@@ -21,12 +21,14 @@ use Rattle.loop_laws.specs.Rows.{RowStep, behind_read, IntStep, TextStep, StoreI
 -- ---- integers and texts
 
 take_given : (v : Variables) (lines : List CodeLine) (braces : List Brace) (n : ℕ) (r : Reading) →
-    take_line (at v lines braces) n r ≡ given (taken r) (λ z. at (with_int (record v { input = drop (bytes_taken r) v.input }) n z) lines braces)
+    take_line (at v lines braces) n r ≡ given (taken r) (λ z. at
+    (with_int (record v { input = drop (bytes_taken r) v.input }) n z) lines braces)
 take_given v lines braces n (Integer value used) = refl
 take_given v lines braces n NoMore = refl
 take_given v lines braces n NoInteger = refl
 
-int_row : (n : ℕ) (x : IntValue) → RowStep (row.Int n x) (λ functions v lines braces. given (int_read v x) (λ z. at (with_int (behind_read v x) n z) lines braces))
+int_row : (n : ℕ) (x : IntValue) → RowStep (row.Int n x)
+    (λ functions v lines braces. given (int_read v x) (λ z. at (with_int (behind_read v x) n z) lines braces))
 unfolding step step_at do_line row_line int_line int_value
 int_row n (int.Atom a) functions v lines braces = refl
 int_row n (int.Operation a op b) functions v lines braces = refl
@@ -48,7 +50,8 @@ int_row n (int.Take a) functions v lines braces = take_given v lines braces n (n
 pub step_int : IntStep
 step_int n x = record { by = int_row n x }
 
-text_row : (n : ℕ) (x : TextValue) → RowStep (row.Text n x) (λ functions v lines braces. given (text_read v x) (λ t. at (with_text v n t) lines braces))
+text_row : (n : ℕ) (x : TextValue) → RowStep (row.Text n x)
+    (λ functions v lines braces. given (text_read v x) (λ t. at (with_text v n t) lines braces))
 unfolding step step_at do_line row_line text_line text_value
 text_row n (words.Atom t) functions v lines braces = refl
 text_row n (words.Cell m a) functions v lines braces = refl
@@ -155,7 +158,8 @@ step_skip = record { by = λ functions v lines braces. refl }
 -- ---- calls
 
 enter_given : (v : Variables) (lines : List CodeLine) (braces : List Brace) (arguments : List Argument) (o : Option Function) →
-    enter_if (at v lines braces) o arguments ≡ begins (found o arguments) (λ f. at (entered v lines braces arguments) (lines_of f) [])
+    enter_if (at v lines braces) o arguments ≡ begins (found o arguments)
+    (λ f. at (entered v lines braces arguments) (lines_of f) [])
 enter_given v lines braces arguments None = refl
 enter_given v lines braces arguments (Some f) = by (match_letters arguments f.parameters)
   where
@@ -164,15 +168,18 @@ enter_given v lines braces arguments (Some f) = by (match_letters arguments f.pa
     by true = refl
     by false = refl
 
-call_given : (functions : List Function) (v : Variables) (lines : List CodeLine) (braces : List Brace) (n : ℕ) (arguments : List Argument) (b : Bool) →
+call_given : (functions : List Function) (v : Variables) (lines : List CodeLine) (braces : List Brace) (n : ℕ)
+    (arguments : List Argument) (b : Bool) →
     (if b then enter_if (at v lines braces) (callable functions n) arguments else Ends (Stuck stuck.NoBlock))
-    ≡ begins (if b then found (callable functions n) arguments else Err stuck.NoBlock) (λ f. at (entered v lines braces arguments) (lines_of f) [])
+    ≡ begins (if b then found (callable functions n) arguments else Err stuck.NoBlock)
+    (λ f. at (entered v lines braces arguments) (lines_of f) [])
 call_given functions v lines braces n arguments true = enter_given v lines braces arguments (callable functions n)
 call_given functions v lines braces n arguments false = refl
 
 pub step_call : CallStep
 unfolding step step_at do_line row_line control_line call_line
-step_call n arguments functions v lines braces = call_given functions v lines braces n arguments (list_all (is_usable (at v lines braces)) arguments)
+step_call n arguments functions v lines braces = call_given functions v lines braces n arguments
+    (list_all (is_usable (at v lines braces)) arguments)
 
 pub step_return : ReturnStep
 unfolding step step_at do_line row_line control_line leave

@@ -44,11 +44,13 @@ text_within cells z i is h = ap (λ r. and_then r (λ place. Ok (text_at cells p
 
 pub store_int_within : StoreIntWithin
 store_int_within cells z value i is h =
-    ap (λ r. and_then (and_then r (λ place. Ok (set cells place value))) (λ new. Ok (Ints new))) (place_there z i (length cells) is h)
+    ap (λ r. and_then (and_then r (λ place. Ok (set cells place value))) (λ new. Ok (Ints new)))
+    (place_there z i (length cells) is h)
 
 pub store_text_within : StoreTextWithin
 store_text_within cells z value i is h =
-    ap (λ r. and_then (and_then r (λ place. Ok (set cells place value))) (λ new. Ok (Texts new))) (place_there z i (length cells) is h)
+    ap (λ r. and_then (and_then r (λ place. Ok (set cells place value))) (λ new. Ok (Texts new)))
+    (place_there z i (length cells) is h)
 
 -- ---- a size that is allowed
 
@@ -62,11 +64,13 @@ zeros_within z n is h = ap (λ r. and_then r (λ m. Ok (Ints (replicate m (pos 0
 
 pub texts_within : TextsWithin
 texts_within z size n m is wide h k =
-    ap (λ r. and_then r (λ a. and_then (size_within 255 size) (λ b. Ok (Texts (replicate a (replicate b 32)))))) (size_there largest z n is h)
+    ap (λ r. and_then r (λ a. and_then (size_within 255 size) (λ b. Ok (Texts (replicate a (replicate b 32))))))
+    (size_there largest z n is h)
     ∙ ap (λ r. and_then r (λ b. Ok (Texts (replicate n (replicate b 32))))) (size_there 255 size m wide k)
 
 pub grown_within : GrownWithin
-grown_within cells z n is h = ap (λ r. and_then r (λ m. Ok (more_cells cells m))) (size_there (largest - cell_count cells) z n is h)
+grown_within cells z n is h = ap (λ r. and_then r (λ m. Ok (more_cells cells m)))
+    (size_there (largest - cell_count cells) z n is h)
 
 -- ---- conditions
 
@@ -75,7 +79,8 @@ truth_holds true = refl
 truth_holds false = refl
 
 not_zero : (n : ℕ) → 0 < n → (b : Bool) → int_eq (pos n) (pos 0) ≡ b → b ≡ false
-not_zero n h true e = let same : pos n ≡ pos 0 = (Decides-int_eq (pos n) (pos 0)).0 e in let none : n ≡ 0 = cc in absurd (omega arith)
+not_zero n h true e = let same : pos n ≡ pos 0 = (Decides-int_eq (pos n) (pos 0)).0 e in let none : n
+    ≡ 0 = cc in absurd (omega arith)
 not_zero n h false e = refl
 
 pub positive_holds : PositiveHolds

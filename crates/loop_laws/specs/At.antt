@@ -109,7 +109,8 @@ found None arguments = Err stuck.WrongCall
 found (Some function) arguments = with_letters function arguments
 
 abbrev pub called : List Function → Variables → ℕ → List Argument → Result Function StuckState
-called functions v n arguments = if list_all (is_usable (at v [] [])) arguments then found (callable functions n) arguments else Err stuck.NoBlock
+called functions v n arguments = if list_all (is_usable (at v [] [])) arguments then found (callable functions n) arguments
+    else Err stuck.NoBlock
 
 -- the variables at its start, where the call stands before these lines within these braces
 abbrev pub entered : Variables → List CodeLine → List Brace → List Argument → Variables

@@ -20,10 +20,12 @@ use Rattle.loop_laws.specs.At.{Variables, at, value_of, with_index}
 -- ---- the lines of statements
 
 abbrev pub Split : Type 0
-Split = (first second : List Stmt) (lines : List CodeLine) → flats (first ++ second) ++ lines ≡ flats first ++ (flats second ++ lines)
+Split = (first second : List Stmt) (lines : List CodeLine) →
+    flats (first ++ second) ++ lines ≡ flats first ++ (flats second ++ lines)
 
 abbrev pub FirstRow : Type 0
-FirstRow = (r : Row) (more : List Stmt) (lines : List CodeLine) → flats (stmt.Row r ∷ more) ++ lines ≡ code.Row r ∷ (flats more ++ lines)
+FirstRow = (r : Row) (more : List Stmt) (lines : List CodeLine) →
+    flats (stmt.Row r ∷ more) ++ lines ≡ code.Row r ∷ (flats more ++ lines)
 
 abbrev pub FirstIf : Type 0
 FirstIf = (test : Atom) (body more : List Stmt) (lines : List CodeLine) →
@@ -31,7 +33,8 @@ FirstIf = (test : Atom) (body more : List Stmt) (lines : List CodeLine) →
 
 abbrev pub FirstIfElse : Type 0
 FirstIfElse = (test : Atom) (body other more : List Stmt) (lines : List CodeLine) →
-    flats (stmt.IfElse test body other ∷ more) ++ lines ≡ code.If test ∷ (flats body ++ code.Else ∷ (flats other ++ code.Close ∷ (flats more ++ lines)))
+    flats (stmt.IfElse test body other ∷ more) ++ lines ≡ code.If test ∷
+    (flats body ++ code.Else ∷ (flats other ++ code.Close ∷ (flats more ++ lines)))
 
 abbrev pub FirstUp : Type 0
 FirstUp = (k : ℕ) (bound : Atom) (body more : List Stmt) (lines : List CodeLine) →
@@ -54,12 +57,14 @@ LinesStep lines braces next = (functions : List Function) (v : Variables) → st
 abbrev pub IfStep : Type 0
 IfStep = (test : Atom) (body : List Stmt) (lines : List CodeLine) (braces : List Brace) →
     LinesStep (code.If test ∷ (flats body ++ code.Close ∷ lines)) braces (λ v.
-    if holds (value_of v test) then quiet (at v (flats body ++ code.Close ∷ lines) (Choice ∷ braces)) else quiet (at v lines braces))
+    if holds (value_of v test) then quiet (at v (flats body ++ code.Close ∷ lines) (Choice ∷ braces))
+    else quiet (at v lines braces))
 
 abbrev pub IfElseStep : Type 0
 IfElseStep = (test : Atom) (body : List Stmt) (lines : List CodeLine) (braces : List Brace) →
     LinesStep (code.If test ∷ (flats body ++ code.Else ∷ lines)) braces (λ v.
-    if holds (value_of v test) then quiet (at v (flats body ++ code.Else ∷ lines) (Choice ∷ braces)) else quiet (at v lines (Choice ∷ braces)))
+    if holds (value_of v test) then quiet (at v (flats body ++ code.Else ∷ lines) (Choice ∷ braces))
+    else quiet (at v lines (Choice ∷ braces)))
 
 -- behind the first branch the other one is passed over, and behind the last one nothing is left to do
 abbrev pub ElseStep : Type 0
@@ -67,7 +72,8 @@ ElseStep = (other : List Stmt) (lines : List CodeLine) (braces : List Brace) →
     LinesStep (code.Else ∷ (flats other ++ code.Close ∷ lines)) (Choice ∷ braces) (λ v. quiet (at v lines braces))
 
 abbrev pub ChoiceEndStep : Type 0
-ChoiceEndStep = (lines : List CodeLine) (braces : List Brace) → LinesStep (code.Close ∷ lines) (Choice ∷ braces) (λ v. quiet (at v lines braces))
+ChoiceEndStep = (lines : List CodeLine) (braces : List Brace) →
+    LinesStep (code.Close ∷ lines) (Choice ∷ braces) (λ v. quiet (at v lines braces))
 
 -- ---- loops. A head begins the first round or passes the loop, a closing brace begins the next round or leaves it
 
@@ -103,7 +109,8 @@ DownEndStep = (k : ℕ) (body lines : List CodeLine) (braces : List Brace) →
     if int_le (pos 0) z then turn (at w body (Downward k body ∷ braces)) else quiet (at w lines braces))
 
 abbrev pub ForeverStep : Type 0
-ForeverStep = (lines : List CodeLine) (braces : List Brace) → LinesStep (code.Forever ∷ lines) braces (λ v. turn (at v lines (Forever lines ∷ braces)))
+ForeverStep = (lines : List CodeLine) (braces : List Brace) →
+    LinesStep (code.Forever ∷ lines) braces (λ v. turn (at v lines (Forever lines ∷ braces)))
 
 abbrev pub ForeverEndStep : Type 0
 ForeverEndStep = (body lines : List CodeLine) (braces : List Brace) →
@@ -117,7 +124,8 @@ pub record ClosesAt (lines : List CodeLine) (braces : List Brace) (place : Place
 
 abbrev pub BreakStep : Type 0
 BreakStep = (lines : List CodeLine) (braces : List Brace) (place : Place) → ClosesAt lines braces place →
-    LinesStep (code.Row (row.Control control.Break) ∷ lines) braces (λ v. quiet (at v (rest_of place.lines) (rest_of place.braces)))
+    LinesStep (code.Row (row.Control control.Break) ∷ lines) braces
+    (λ v. quiet (at v (rest_of place.lines) (rest_of place.braces)))
 
 abbrev pub ContinueStep : Type 0
 ContinueStep = (lines : List CodeLine) (braces : List Brace) (place : Place) → ClosesAt lines braces place →
@@ -132,9 +140,11 @@ is_loop (Forever body) = true
 -- somewhere, where it makes no difference; in front of whole statements, in the branches of a choice, and in a loop
 pub record ClosingLaws : Type 0 where
   pub somewhere : (lines : List CodeLine) (braces : List Brace) → (place : Place) × ClosesAt lines braces place
-  pub behind : (body : List Stmt) {lines : List CodeLine} {braces : List Brace} {place : Place} → ClosesAt lines braces place → ClosesAt (flats body ++ lines) braces place
+  pub behind : (body : List Stmt) {lines : List CodeLine} {braces : List Brace} {place : Place} → ClosesAt lines braces place →
+      ClosesAt (flats body ++ lines) braces place
   pub in_branch : (other : List Stmt) {lines : List CodeLine} {braces : List Brace} {place : Place} → ClosesAt lines braces place →
       ClosesAt (code.Else ∷ (flats other ++ code.Close ∷ lines)) (Choice ∷ braces) place
-  pub in_choice : {lines : List CodeLine} {braces : List Brace} {place : Place} → ClosesAt lines braces place → ClosesAt (code.Close ∷ lines) (Choice ∷ braces) place
+  pub in_choice : {lines : List CodeLine} {braces : List Brace} {place : Place} → ClosesAt lines braces place →
+      ClosesAt (code.Close ∷ lines) (Choice ∷ braces) place
   pub in_loop : (lines : List CodeLine) (brace : Brace) (braces : List Brace) → is_loop brace ≡ true →
       ClosesAt (code.Close ∷ lines) (brace ∷ braces) (record { lines = code.Close ∷ lines; braces = brace ∷ braces })

@@ -25,9 +25,12 @@ DoesBackward source written Going = IsPrefix written source.written
 
 -- for every input and every number of turns, where the program needs at most so many turns for so many of the source
 pub record Follows (source : Source) (bound : ℕ → ℕ) (program : List Function) : Type 0 where
-  pub forward : (input : List ℕ) (turns : ℕ) → DoesForward (source input turns).written (source input turns).outcome (λ written outcome. Mach program input (bound turns) written outcome)
-  pub backward : (input : List ℕ) (turns : ℕ) (written : List ℕ) (outcome : Outcome End) → Mach program input turns written outcome → DoesBackward (source input turns) written outcome
-  pub never_stuck : (input : List ℕ) (turns : ℕ) (written : List ℕ) (why : StuckState) → Mach program input turns written (Finished (Stuck why)) → ⊥
+  pub forward : (input : List ℕ) (turns : ℕ) → DoesForward (source input turns).written (source input turns).outcome
+      (λ written outcome. Mach program input (bound turns) written outcome)
+  pub backward : (input : List ℕ) (turns : ℕ) (written : List ℕ) (outcome : Outcome End) →
+      Mach program input turns written outcome → DoesBackward (source input turns) written outcome
+  pub never_stuck : (input : List ℕ) (turns : ℕ) (written : List ℕ) (why : StuckState) →
+      Mach program input turns written (Finished (Stuck why)) → ⊥
 
 -- ---- from forward alone
 
@@ -41,11 +44,13 @@ as_source limit turns run = expected limit turns run.written (as_program run.out
 
 -- at every number of turns the program comes to what the source does
 pub record Simulates (source : Source) (needs : List ℕ → ℕ → ℕ) (program : List Function) : Type 0 where
-  pub meets : (input : List ℕ) (turns : ℕ) → Meets program (configuration 0 [] (start program input)) (as_source turns (needs input turns) (source input turns))
+  pub meets : (input : List ℕ) (turns : ℕ) → Meets program (configuration 0 [] (start program input))
+      (as_source turns (needs input turns) (source input turns))
 
 abbrev pub FollowsBothWays : Type 0
 FollowsBothWays = (source : Source) (needs : List ℕ → ℕ → ℕ) (bound : ℕ → ℕ) (program : List Function) →
-    Simulates source needs program → ((input : List ℕ) (turns : ℕ) → needs input turns ≤ bound turns) → Follows source bound program
+    Simulates source needs program → ((input : List ℕ) (turns : ℕ) → needs input turns ≤ bound turns) →
+    Follows source bound program
 
 -- what a run has done that has at least the turns that the bound asks for: what the source ends or faults with, and all that
 -- the source has written while that goes on
@@ -54,5 +59,7 @@ HasDone written (Finished stop) whole outcome = (whole ≡ written) × (outcome 
 HasDone written Going whole outcome = IsPrefix written whole
 
 abbrev pub WithMoreTurns : Type 0
-WithMoreTurns = (source : Source) (bound : ℕ → ℕ) (program : List Function) → Follows source bound program → (input : List ℕ) (turns more : ℕ) → bound turns ≤ more →
-    (written : List ℕ) (outcome : Outcome End) → Mach program input more written outcome → HasDone (source input turns).written (source input turns).outcome written outcome
+WithMoreTurns = (source : Source) (bound : ℕ → ℕ) (program : List Function) → Follows source bound program →
+    (input : List ℕ) (turns more : ℕ) → bound turns ≤ more →
+    (written : List ℕ) (outcome : Outcome End) → Mach program input more written outcome →
+    HasDone (source input turns).written (source input turns).outcome written outcome

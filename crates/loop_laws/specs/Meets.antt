@@ -27,7 +27,12 @@ pub record Expected : Type 0 where
   pub run : Option (Run End)
 
 abbrev pub expected : ℕ → ℕ → List ℕ → Outcome End → Expected
-expected limit turns written outcome = record { limit = limit; turns = turns; run = Some (record { written = written; outcome = outcome }) }
+expected limit turns written outcome = record {
+  limit = limit;
+  turns = turns;
+  run =
+      Some (record { written = written; outcome = outcome });
+}
 
 abbrev pub ComesTo : List Function → Configuration → ℕ → ℕ → List ℕ → Outcome End → Type 0
 ComesTo functions start limit turns written (Finished how) = FinishesAt functions start turns written how
@@ -43,33 +48,39 @@ pub record Meets (functions : List Function) (start : Configuration) (e : Expect
 
 -- ---- steps in front
 
-pub record StepLaws (A : Type 0) : Type 0 where
+-- where a step leads from a state, with so many turns begun and this written before
+pub record StepLaws (A : Type 0) (functions : List Function) (turns : ℕ) (written : List ℕ) (s : State)
+    (e : Expected) : Type 0 where
   -- a step that writes nothing, one that writes, and one that begins a turn
-  pub silent : {functions : List Function} {turns : ℕ} {written : List ℕ} {s t : State} {e : Expected} → step functions s ≡ quiet t →
+  pub silent : (t : State) → step functions s ≡ quiet t →
       Meets functions (configuration turns written t) e → Meets functions (configuration turns written s) e
-  pub writes : {functions : List Function} {turns : ℕ} {written bytes : List ℕ} {s t : State} {e : Expected} → step functions s ≡ Goes false bytes t →
+  pub writes : (t : State) (bytes : List ℕ) → step functions s ≡ Goes false bytes t →
       Meets functions (configuration turns (written ++ bytes) t) e → Meets functions (configuration turns written s) e
-  pub turned : {functions : List Function} {turns : ℕ} {written : List ℕ} {s t : State} {e : Expected} → step functions s ≡ turn t →
+  pub turned : (t : State) → step functions s ≡ turn t →
       Meets functions (configuration (turns + 1) written t) e → Meets functions (configuration turns written s) e
   -- one that a value decides
-  pub gives : {functions : List Function} {turns : ℕ} {written : List ℕ} {s : State} {e : Expected} {result : Result A StuckState} {a : A} (next : A → State) →
-      step functions s ≡ given result next → result ≡ Ok a → Meets functions (configuration turns written (next a)) e → Meets functions (configuration turns written s) e
+  pub gives : (result : Result A StuckState) (a : A) (next : A → State) → step functions s ≡ given result next → result ≡ Ok a →
+      Meets functions (configuration turns written (next a)) e → Meets functions (configuration turns written s) e
   -- a call is left: its caller goes on, and the blocks that it made are freed
-  pub returns : {functions : List Function} {turns : ℕ} {written : List ℕ} {s : State} {e : Expected} (v w : Variables) (lines : List CodeLine) (braces : List Brace) →
-      step functions s ≡ leaving w → w.callers ≡ frame_of v lines braces ∷ v.callers →
-      Meets functions (configuration turns written (at (returned v w) lines braces)) e → Meets functions (configuration turns written s) e
+  pub returns : (v w : Variables) (lines : List CodeLine) (braces : List Brace) → step functions s ≡ leaving w →
+      w.callers ≡ frame_of v lines braces ∷ v.callers →
+      Meets functions (configuration turns written (at (returned v w) lines braces)) e →
+      Meets functions (configuration turns written s) e
 
 -- ---- ends
 
-pub record EndLaws : Type 0 where
-  pub ends : {functions : List Function} {turns : ℕ} {written : List ℕ} {s : State} {e : Expected} {how : End} → step functions s ≡ Ends how →
-      e.run ≡ Some (record { written = written; outcome = Finished how }) → turns ≤ e.turns → Meets functions (configuration turns written s) e
+pub record EndLaws (functions : List Function) (turns : ℕ) (written : List ℕ) (s : State) (e : Expected) : Type 0 where
+  pub ends : (how : End) → step functions s ≡ Ends how →
+      e.run ≡ Some (record { written = written; outcome = Finished how }) → turns ≤ e.turns →
+      Meets functions (configuration turns written s) e
   -- the program is left by its main function
-  pub leaves : {functions : List Function} {turns : ℕ} {written : List ℕ} {s : State} {e : Expected} (w : Variables) → step functions s ≡ leaving w → w.callers ≡ [] →
-      e.run ≡ Some (record { written = written; outcome = Finished (Comes Ended) }) → turns ≤ e.turns → Meets functions (configuration turns written s) e
+  pub leaves : (w : Variables) → step functions s ≡ leaving w → w.callers ≡ [] →
+      e.run ≡ Some (record { written = written; outcome = Finished (Comes Ended) }) → turns ≤ e.turns →
+      Meets functions (configuration turns written s) e
   -- more turns are begun than the limit
-  pub passes : {functions : List Function} {turns : ℕ} {written : List ℕ} {s : State} {e : Expected} →
-      e.run ≡ Some (record { written = written; outcome = Going }) → e.limit < turns → turns ≤ e.turns → Meets functions (configuration turns written s) e
+  pub passes : e.run ≡ Some (record { written = written; outcome = Going }) → e.limit < turns → turns ≤ e.turns →
+      Meets functions (configuration turns written s) e
   -- what is expected may be told otherwise
-  pub told_as : {functions : List Function} {start : Configuration} {e f : Expected} → e ≡ f → Meets functions start f → Meets functions start e
-  pub anything : {functions : List Function} {start : Configuration} {e : Expected} → e.run ≡ None → Meets functions start e
+  pub told_as : (f : Expected) → e ≡ f → Meets functions (configuration turns written s) f →
+      Meets functions (configuration turns written s) e
+  pub anything : e.run ≡ None → Meets functions (configuration turns written s) e

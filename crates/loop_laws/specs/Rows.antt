@@ -32,13 +32,15 @@ use Rattle.loop_laws.specs.At.{Variables, frame_of, at, value_of, bytes_of, numb
 
 -- where the step at a row leads, and where the one at any line leads
 abbrev pub LineStep : CodeLine → (List Function → Variables → List CodeLine → List Brace → Next) → Type 0
-LineStep line next = (functions : List Function) (v : Variables) (lines : List CodeLine) (braces : List Brace) → step functions (at v (line ∷ lines) braces) ≡ next functions v lines braces
+LineStep line next = (functions : List Function) (v : Variables) (lines : List CodeLine) (braces : List Brace) →
+    step functions (at v (line ∷ lines) braces) ≡ next functions v lines braces
 
 abbrev pub RowStep : Row → (List Function → Variables → List CodeLine → List Brace → Next) → Type 0
 RowStep r next = LineStep (code.Row r) next
 
 -- a row that gives a value, or is stuck, and leaves the variables changed by it
-pub record Gives {A : Type 0} (r : Row) (value : Variables → Result A StuckState) (change : Variables → A → Variables) : Type 0 where
+pub record Gives {A : Type 0} (r : Row) (value : Variables → Result A StuckState)
+    (change : Variables → A → Variables) : Type 0 where
   pub by : RowStep r (λ functions v lines braces. given (value v) (λ a. at (change v a) lines braces))
 
 -- a row that leaves the variables so
@@ -66,16 +68,20 @@ TextStep = (n : ℕ) (x : TextValue) → Gives (row.Text n x) (λ v. text_read v
 -- ---- blocks
 
 abbrev pub StoreIntStep : Type 0
-StoreIntStep = (n : ℕ) (i a : Atom) → Gives (row.Block (block.StoreInt n i a)) (λ v. changed v.blocks (block_at v.int_blocks n) (store_int (value_of v i) (value_of v a))) with_blocks
+StoreIntStep = (n : ℕ) (i a : Atom) → Gives (row.Block (block.StoreInt n i a))
+    (λ v. changed v.blocks (block_at v.int_blocks n) (store_int (value_of v i) (value_of v a))) with_blocks
 
 abbrev pub StoreTextStep : Type 0
-StoreTextStep = (n : ℕ) (i : Atom) (t : TextAtom) → Gives (row.Block (block.StoreText n i t)) (λ v. changed v.blocks (block_at v.text_blocks n) (store_text (value_of v i) (bytes_of v t))) with_blocks
+StoreTextStep = (n : ℕ) (i : Atom) (t : TextAtom) → Gives (row.Block (block.StoreText n i t))
+    (λ v. changed v.blocks (block_at v.text_blocks n) (store_text (value_of v i) (bytes_of v t))) with_blocks
 
 abbrev pub GrowStep : Type 0
-GrowStep = (r : Reference) (a : Atom) → Gives (row.Block (block.Grow r a)) (λ v. changed v.blocks (number_of v r) (λ cells. grown cells (value_of v a))) with_blocks
+GrowStep = (r : Reference) (a : Atom) → Gives (row.Block (block.Grow r a))
+    (λ v. changed v.blocks (number_of v r) (λ cells. grown cells (value_of v a))) with_blocks
 
 abbrev pub FreeStep : Type 0
-FreeStep = (r : Reference) → Gives (row.Block (block.Free r)) (λ v. cells_at v.blocks (number_of v r)) (λ v cells. with_blocks v (freed v.blocks (number_of v r)))
+FreeStep = (r : Reference) → Gives (row.Block (block.Free r)) (λ v. cells_at v.blocks (number_of v r))
+    (λ v cells. with_blocks v (freed v.blocks (number_of v r)))
 
 -- a new block, which reference n leads to
 abbrev pub with_new_ints : ℕ → Variables → Cells → Variables
@@ -97,20 +103,25 @@ abbrev pub MarkStep : Type 0
 MarkStep = (n : ℕ) (a : Atom) → Gives (row.Block (block.Mark n a)) (λ v. zeros (value_of v a)) (with_new_ints n)
 
 abbrev pub NewTextStep : Type 0
-NewTextStep = (n : ℕ) (a b : Atom) → Gives (row.Block (block.NewText n a b)) (λ v. texts_of_length (value_of v a) (value_of v b)) (with_new_texts n)
+NewTextStep = (n : ℕ) (a b : Atom) → Gives (row.Block (block.NewText n a b)) (λ v. texts_of_length (value_of v a) (value_of v b))
+    (with_new_texts n)
 
 abbrev pub TempTextStep : Type 0
-TempTextStep = (n : ℕ) (a : Atom) → Gives (row.Block (block.TempText n a)) (λ v. texts_of_length (value_of v a) (pos 0)) (with_new_texts n)
+TempTextStep = (n : ℕ) (a : Atom) → Gives (row.Block (block.TempText n a)) (λ v. texts_of_length (value_of v a) (pos 0))
+    (with_new_texts n)
 
 abbrev pub CopyTextStep : Type 0
-CopyTextStep = (n : ℕ) (a : Atom) → Gives (row.Block (block.CopyText n a)) (λ v. texts_of_length (value_of v a) (pos 0)) (with_new_texts n)
+CopyTextStep = (n : ℕ) (a : Atom) → Gives (row.Block (block.CopyText n a)) (λ v. texts_of_length (value_of v a) (pos 0))
+    (with_new_texts n)
 
 -- a reference that leads to the block of another
 abbrev pub SameIntsStep : Type 0
-SameIntsStep = (n m : ℕ) → Gives (row.Block (block.SameInts n m)) (λ v. cells_at v.blocks (block_at v.int_blocks m)) (λ v cells. with_ints_reference v n (block_at v.int_blocks m))
+SameIntsStep = (n m : ℕ) → Gives (row.Block (block.SameInts n m)) (λ v. cells_at v.blocks (block_at v.int_blocks m))
+    (λ v cells. with_ints_reference v n (block_at v.int_blocks m))
 
 abbrev pub SameTextsStep : Type 0
-SameTextsStep = (n m : ℕ) → Gives (row.Block (block.SameTexts n m)) (λ v. cells_at v.blocks (block_at v.text_blocks m)) (λ v cells. with_texts_reference v n (block_at v.text_blocks m))
+SameTextsStep = (n m : ℕ) → Gives (row.Block (block.SameTexts n m)) (λ v. cells_at v.blocks (block_at v.text_blocks m))
+    (λ v cells. with_texts_reference v n (block_at v.text_blocks m))
 
 -- ---- ends, the line of the source, records
 
@@ -118,7 +129,8 @@ abbrev pub StopStep : Type 0
 StopStep = RowStep (row.Control control.Stop) (λ functions v lines braces. Ends (Comes Ended))
 
 abbrev pub FaultStep : Type 0
-FaultStep = (kind : FaultKind) → RowStep (row.Control (control.Fault kind)) (λ functions v lines braces. Ends (Comes (Faulted kind v.line)))
+FaultStep = (kind : FaultKind) → RowStep (row.Control (control.Fault kind))
+    (λ functions v lines braces. Ends (Comes (Faulted kind v.line)))
 
 abbrev pub SourceLineStep : Type 0
 SourceLineStep = (n : ℕ) → Leaves (row.Control (control.At n)) (λ v. record v { line = n })
@@ -136,7 +148,8 @@ abbrev pub PutTextStep : Type 0
 PutTextStep = (t : TextAtom) → Leaves (row.Record (record_row.PutText t)) (λ v. with_pending v (scalar.Text (bytes_of v t)))
 
 abbrev pub WriteStep : Type 0
-WriteStep = RowStep (row.Record record_row.Write) (λ functions v lines braces. Goes false (record_text v.pending ++ 10 ∷ []) (at (record v { pending = [] }) lines braces))
+WriteStep = RowStep (row.Record record_row.Write) (λ functions v lines braces. Goes false (record_text v.pending ++ 10 ∷ [])
+    (at (record v { pending = [] }) lines braces))
 
 abbrev pub SkipStep : Type 0
 SkipStep = Leaves (row.Record record_row.Skip) (λ v. record v { input = drop (record_length v.input) v.input })
@@ -150,7 +163,8 @@ begins (Err why) next = Ends (Stuck why)
 
 abbrev pub CallStep : Type 0
 CallStep = (n : ℕ) (arguments : List Argument) →
-    RowStep (row.Control (control.Call n arguments)) (λ functions v lines braces. begins (called functions v n arguments) (λ f. at (entered v lines braces arguments) (lines_of f) []))
+    RowStep (row.Control (control.Call n arguments)) (λ functions v lines braces. begins (called functions v n arguments)
+    (λ f. at (entered v lines braces arguments) (lines_of f) []))
 
 -- the call is left: at return, at the function's last brace, and where no line is left
 abbrev pub leaving : Variables → Next
@@ -160,14 +174,16 @@ abbrev pub ReturnStep : Type 0
 ReturnStep = RowStep (row.Control control.Return) (λ functions v lines braces. leaving v)
 
 abbrev pub LastBraceStep : Type 0
-LastBraceStep = (functions : List Function) (v : Variables) (lines : List CodeLine) → step functions (at v (code.Close ∷ lines) []) ≡ leaving v
+LastBraceStep = (functions : List Function) (v : Variables) (lines : List CodeLine) →
+    step functions (at v (code.Close ∷ lines) []) ≡ leaving v
 
 abbrev pub NoLineStep : Type 0
 NoLineStep = (functions : List Function) (v : Variables) (braces : List Brace) → step functions (at v [] braces) ≡ leaving v
 
 -- to the caller, whose lines and braces are those at the call, or out of the program
 abbrev pub LeavesToCaller : Type 0
-LeavesToCaller = (v w : Variables) (lines : List CodeLine) (braces : List Brace) → w.callers ≡ frame_of v lines braces ∷ v.callers → leaving w ≡ quiet (at (returned v w) lines braces)
+LeavesToCaller = (v w : Variables) (lines : List CodeLine) (braces : List Brace) →
+    w.callers ≡ frame_of v lines braces ∷ v.callers → leaving w ≡ quiet (at (returned v w) lines braces)
 
 abbrev pub LeavesProgram : Type 0
 LeavesProgram = (v : Variables) → v.callers ≡ [] → leaving v ≡ Ends (Comes Ended)

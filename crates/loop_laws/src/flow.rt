@@ -3,7 +3,6 @@
 ghost use Rattle.loop_laws.specs.Braces.{Split, FirstRow, FirstIf, FirstIfElse, FirstUp, FirstDown, FirstForever, IfStep, IfElseStep, ElseStep, ChoiceEndStep, UpStep, UpEndStep, DownStep, DownEndStep, ForeverStep, ForeverEndStep, BreakStep, ContinueStep, ClosingLaws};
 
 /// The lines of two lists of statements, and of a list with each kind of statement in front.
-#[tactic(auto, using(crate::proofs::Braces::split, crate::proofs::Braces::first_row, crate::proofs::Braces::first_if, crate::proofs::Braces::first_if_else, crate::proofs::Braces::first_up, crate::proofs::Braces::first_down, crate::proofs::Braces::first_forever))]
 pub fn lines_of_statements()
     ensures both { Split }
     ensures row { FirstRow }
@@ -15,7 +14,6 @@ pub fn lines_of_statements()
 {}
 
 /// A choice, and the ends of its branches.
-#[tactic(auto, using(crate::proofs::Braces::step_if, crate::proofs::Braces::step_if_else, crate::proofs::Braces::step_else, crate::proofs::Braces::step_choice_end))]
 pub fn choices()
     ensures choice { IfStep }
     ensures choice_of_two { IfElseStep }
@@ -24,7 +22,6 @@ pub fn choices()
 {}
 
 /// The heads and the closing braces of loops.
-#[tactic(auto, using(crate::proofs::Braces::step_up, crate::proofs::Braces::step_up_end, crate::proofs::Braces::step_down, crate::proofs::Braces::step_down_end, crate::proofs::Braces::step_forever, crate::proofs::Braces::step_forever_end))]
 pub fn loops()
     ensures upward { UpStep }
     ensures upward_end { UpEndStep }

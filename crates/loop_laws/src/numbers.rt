@@ -4,7 +4,6 @@ ghost use Rattle.loop_laws.specs.Within.{CellsThere, IntsThere, TextsThere, Chan
 ghost use Rattle.loop_laws.specs.Numbered.{SetHere, SetElsewhere, MadeHere, MadeElsewhere, ChangedHere, ChangedElsewhere, FreedHere, FreedElsewhere, MadeInCall, MadeBeforeCall};
 
 /// What a reference to a living block gives, and what changes and freeing leave.
-#[tactic(auto, using(crate::proofs::Within::cells_there, crate::proofs::Within::ints_there, crate::proofs::Within::texts_there, crate::proofs::Within::change_there, crate::proofs::Within::freed_there))]
 pub fn living_blocks()
     ensures cells { CellsThere }
     ensures ints { IntsThere }
@@ -14,14 +13,13 @@ pub fn living_blocks()
 {}
 
 /// A variable that is set, and every other one.
-#[tactic(auto, using(crate::proofs::Numbered::with_at_same, crate::proofs::Numbered::with_at_other))]
+#[tactic(auto, using(crate::proofs::Numbered::with_at_same, crate::proofs::Numbered::with_at_other,))]
 pub fn variables_by_number<A>()
     ensures here { SetHere A }
     ensures elsewhere { SetElsewhere A }
 {}
 
 /// A block that is made, changed or freed, or that a call left, and every other one.
-#[tactic(auto, using(crate::proofs::Numbered::made_here, crate::proofs::Numbered::made_elsewhere, crate::proofs::Numbered::changed_here, crate::proofs::Numbered::changed_elsewhere, crate::proofs::Numbered::freed_here, crate::proofs::Numbered::freed_elsewhere, crate::proofs::Numbered::made_in_call, crate::proofs::Numbered::made_before_call))]
 pub fn blocks_by_number()
     ensures made { MadeHere }
     ensures made_elsewhere { MadeElsewhere }
@@ -34,7 +32,6 @@ pub fn blocks_by_number()
 {}
 
 /// An index within its block, a size that is allowed, and conditions that hold.
-#[tactic(auto, using(crate::proofs::Within::int_within, crate::proofs::Within::text_within, crate::proofs::Within::store_int_within, crate::proofs::Within::store_text_within, crate::proofs::Within::zeros_within, crate::proofs::Within::texts_within, crate::proofs::Within::grown_within, crate::proofs::Within::truth_holds, crate::proofs::Within::positive_holds))]
 pub fn values_within()
     ensures int { IntWithin }
     ensures text { TextWithin }

@@ -43,7 +43,6 @@ pub fn records_and_ends()
 
 /// A call begins a turn. Where it is left its caller goes on, and the blocks that it made are freed; the main function
 /// leaves the program.
-#[tactic(auto, using(crate::proofs::Rows::step_call, crate::proofs::Rows::step_return, crate::proofs::Rows::step_last_brace, crate::proofs::Rows::step_no_line, crate::proofs::Rows::leaves_to_caller, crate::proofs::Rows::leaves_program))]
 pub fn calls()
     ensures call { CallStep }
     ensures ret { ReturnStep }
