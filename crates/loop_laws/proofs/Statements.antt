@@ -1,5 +1,6 @@
 -- Statements in front of what the rest of a run comes to. The rounds of loops are gone through here, once.
-use Rattle.std.proofs.Common.{◌≡◌, ℕ, zero, suc, ◌+◌, ◌<◌, ◌≤◌, ◌^◌, Bool, true, false, List, ◌∷◌, ◌++◌, Result, Ok, [], Some, refl, ap, ◌∙◌, sym, subst, arith, pos, nat_lt, nat_le, if◌then◌else◌}
+use Rattle.std.proofs.Common.{◌≡◌, ℕ, zero, suc, ◌+◌, ◌<◌, ◌≤◌, ◌^◌, Bool, true, false, List, ◌∷◌, ◌++◌, Result, Ok, [], Some}
+use Rattle.std.proofs.Common.{refl, ap, ◌∙◌, sym, subst, arith, pos, nat_lt, nat_le, if◌then◌else◌, ℤ}
 use Rattle.std.specs.Prelude.{negsuc, ◌+ℤ◌, ◌-ℤ◌, int_lt, int_le}
 use Rattle.std.specs.Int.{w64, int_wrap}
 use Rattle.std.proofs.Math.IntN.{ -ℤ_one}
@@ -29,14 +30,18 @@ use Rattle.loop_laws.specs.At.{Variables, frame_of, at, value_of, with_index, ca
 use Rattle.loop_laws.specs.Rows.{Gives, Leaves, begins}
 use Rattle.loop_laws.specs.Braces.{ClosesAt}
 use Rattle.loop_laws.specs.Meets.{Expected, Meets}
-use Rattle.loop_laws.specs.Statements.{MeetsAt, RowLaws, StatementLaws, Points, MeetsFrom, body_lines, UpwardRounds, UpwardLoop, index_below, DownwardRounds, DownwardLoop, EndlessRounds, EndlessLoop}
+use Rattle.loop_laws.specs.Statements.{MeetsAt, RowLaws, StatementLaws, Points, MeetsFrom, body_lines, UpwardRounds, UpwardLoop}
+use Rattle.loop_laws.specs.Statements.{index_below, DownwardRounds, DownwardLoop, EndlessRounds, EndlessLoop}
 use Rattle.loop_laws.proofs.Numbered.{with_at_same}
-use Rattle.loop_laws.proofs.Braces.{split, first_row, first_if, first_if_else, first_up, first_down, first_forever, step_if, step_if_else, step_else, step_choice_end, step_up, step_up_end, step_down, step_down_end, step_forever, step_forever_end, step_break, step_continue, end_behind}
+use Rattle.loop_laws.proofs.Braces.{split, first_row, first_if, first_if_else, first_up, first_down, first_forever, step_if}
+use Rattle.loop_laws.proofs.Braces.{step_if_else, step_else, step_choice_end, step_up, step_up_end, step_down, step_down_end}
+use Rattle.loop_laws.proofs.Braces.{step_forever, step_forever_end, step_break, step_continue, end_behind}
 use Rattle.loop_laws.proofs.Rows.{step_write, step_call, step_return, step_last_brace, step_stop, step_fault}
 use Rattle.loop_laws.proofs.Meets.{silent, turned, gives, writes, returns, ends, leaves}
 
 -- other lines that are the same
-pub with_lines : {functions : List Function} {turns : ℕ} {written : List ℕ} {v : Variables} {lines new : List CodeLine} {braces : List Brace} {e : Expected} → lines ≡ new →
+pub with_lines : {functions : List Function} {turns : ℕ} {written : List ℕ} {v : Variables} {lines new : List CodeLine}
+    {braces : List Brace} {e : Expected} → lines ≡ new →
     MeetsAt functions turns written v new braces e → MeetsAt functions turns written v lines braces e
 with_lines {functions} {turns} {written} {v} {lines} {new} {braces} {e} is m =
     subst (λ (ls : List CodeLine). MeetsAt functions turns written v ls braces e) (sym is) m
@@ -54,14 +59,16 @@ pub first : {functions : List Function} {turns : ℕ} {written : List ℕ} {v : 
 first r more lines m = with_lines (first_row r more lines) m
 
 -- a row that gives a value, and one that leaves the variables so
-pub gives_row : {A : Type 0} {functions : List Function} {turns : ℕ} {written : List ℕ} {v : Variables} {braces : List Brace} {e : Expected} {r : Row} {value : Variables → Result A StuckState} {change : Variables → A → Variables} {a : A} →
+pub gives_row : {A : Type 0} {functions : List Function} {turns : ℕ} {written : List ℕ} {v : Variables} {braces : List Brace}
+    {e : Expected} {r : Row} {value : Variables → Result A StuckState} {change : Variables → A → Variables} {a : A} →
     Gives r value change → (more : List Stmt) (lines : List CodeLine) → value v ≡ Ok a →
     MeetsAt functions turns written (change v a) (flats more ++ lines) braces e →
     MeetsAt functions turns written v (flats (stmt.Row r ∷ more) ++ lines) braces e
 gives_row {functions = functions} {v = v} {braces = braces} {r = r} is more lines read m =
     first r more lines (gives _ (is.by functions v (flats more ++ lines) braces) read m)
 
-pub leaves_row : {functions : List Function} {turns : ℕ} {written : List ℕ} {v : Variables} {braces : List Brace} {e : Expected} {r : Row} {change : Variables → Variables} →
+pub leaves_row : {functions : List Function} {turns : ℕ} {written : List ℕ} {v : Variables} {braces : List Brace} {e : Expected}
+    {r : Row} {change : Variables → Variables} →
     Leaves r change → (more : List Stmt) (lines : List CodeLine) →
     MeetsAt functions turns written (change v) (flats more ++ lines) braces e →
     MeetsAt functions turns written v (flats (stmt.Row r ∷ more) ++ lines) braces e
@@ -95,7 +102,8 @@ chooses {functions} {turns} {written} {v} {braces} {e} test body more lines m n 
     with_lines (first_if test body more lines) (either (holds (value_of v test))
     (step_if test body (flats more ++ lines) braces functions v) m n)
 
-pub chooses_either : {functions : List Function} {turns : ℕ} {written : List ℕ} {v : Variables} {braces : List Brace} {e : Expected} (test : Atom) (body other more : List Stmt) (lines : List CodeLine) →
+pub chooses_either : {functions : List Function} {turns : ℕ} {written : List ℕ} {v : Variables} {braces : List Brace}
+    {e : Expected} (test : Atom) (body other more : List Stmt) (lines : List CodeLine) →
     (holds (value_of v test) ≡ true → MeetsAt functions turns written v
     (flats body ++ code.Else ∷ (flats other ++ code.Close ∷ (flats more ++ lines))) (Choice ∷ braces) e) →
     (holds (value_of v test) ≡ false → MeetsAt functions turns written v (flats other ++ code.Close ∷ (flats more ++ lines))
@@ -106,25 +114,61 @@ chooses_either {functions} {turns} {written} {v} {braces} {e} test body other mo
     (either (holds (value_of v test)) (step_if_else test body
     (flats other ++ code.Close ∷ (flats more ++ lines)) braces functions v) m n)
 
-pub past_else : {functions : List Function} {turns : ℕ} {written : List ℕ} {v : Variables} {lines : List CodeLine} {braces : List Brace} {e : Expected} (other : List Stmt) →
+pub past_else : {functions : List Function} {turns : ℕ} {written : List ℕ} {v : Variables} {lines : List CodeLine}
+    {braces : List Brace} {e : Expected} (other : List Stmt) →
     MeetsAt functions turns written v lines braces e → MeetsAt functions turns written v
     (code.Else ∷ (flats other ++ code.Close ∷ lines)) (Choice ∷ braces) e
 past_else {functions} {turns} {written} {v} {lines} {braces} other m = silent (step_else other lines braces functions v) m
 
-pub past_close : {functions : List Function} {turns : ℕ} {written : List ℕ} {v : Variables} {lines : List CodeLine} {braces : List Brace} {e : Expected} →
+pub past_close : {functions : List Function} {turns : ℕ} {written : List ℕ} {v : Variables} {lines : List CodeLine}
+    {braces : List Brace} {e : Expected} →
     MeetsAt functions turns written v lines braces e → MeetsAt functions turns written v (code.Close ∷ lines) (Choice ∷ braces) e
 past_close {functions} {turns} {written} {v} {lines} {braces} m = silent (step_choice_end lines braces functions v) m
 
+-- ---- loops that have no round
+
+pub skips_upward : {functions : List Function} {turns : ℕ} {written : List ℕ} {v : Variables} {braces : List Brace}
+    {e : Expected} (k : ℕ) (bound : Atom) (body more : List Stmt) (lines : List CodeLine) →
+    int_lt (pos 0) (value_of (with_index v k (pos 0)) bound) ≡ false →
+    MeetsAt functions turns written (with_index v k (pos 0)) (flats more ++ lines) braces e →
+    MeetsAt functions turns written v (flats (stmt.ForUp k bound body ∷ more) ++ lines) braces e
+skips_upward {functions} {turns} {written} {v} {braces} {e} k bound body more lines none m =
+    with_lines (first_up k bound body more lines)
+    (silent (step_up k bound body (flats more ++ lines) braces functions v
+    ∙ ap (λ (t : Bool). if t then turn
+    (at (with_index v k (pos 0)) (body_lines body (flats more ++ lines))
+    (Upward k bound (body_lines body (flats more ++ lines)) ∷ braces))
+    else quiet (at (with_index v k (pos 0)) (flats more ++ lines) braces)) none) m)
+
+pub skips_downward : {functions : List Function} {turns : ℕ} {written : List ℕ} {v : Variables} {braces : List Brace}
+    {e : Expected} (k : ℕ) (bound : Atom) (body more : List Stmt) (lines : List CodeLine) (z : ℤ) →
+    z ≡ int_wrap w64 (value_of v bound -ℤ pos 1) → int_le (pos 0) z ≡ false →
+    MeetsAt functions turns written (with_index v k z) (flats more ++ lines) braces e →
+    MeetsAt functions turns written v (flats (stmt.ForDown k bound body ∷ more) ++ lines) braces e
+skips_downward {functions} {turns} {written} {v} {braces} {e} k bound body more lines z is none m =
+    with_lines (first_down k bound body more lines)
+    (silent (step_down k bound body (flats more ++ lines) braces functions v
+    ∙ ap (λ (y : ℤ). if int_le (pos 0) y then turn
+    (at (with_index v k y) (body_lines body (flats more ++ lines))
+    (Downward k (body_lines body (flats more ++ lines)) ∷ braces))
+    else quiet (at (with_index v k y) (flats more ++ lines) braces)) (sym is)
+    ∙ ap (λ (t : Bool). if t then turn
+    (at (with_index v k z) (body_lines body (flats more ++ lines))
+    (Downward k (body_lines body (flats more ++ lines)) ∷ braces))
+    else quiet (at (with_index v k z) (flats more ++ lines) braces)) none) m)
+
 -- ---- break and continue
 
-pub breaks : {functions : List Function} {turns : ℕ} {written : List ℕ} {v : Variables} {lines : List CodeLine} {braces : List Brace} {e : Expected} {place : Place} (more : List Stmt) →
+pub breaks : {functions : List Function} {turns : ℕ} {written : List ℕ} {v : Variables} {lines : List CodeLine}
+    {braces : List Brace} {e : Expected} {place : Place} (more : List Stmt) →
     ClosesAt lines braces place → MeetsAt functions turns written v (rest_of place.lines) (rest_of place.braces) e →
     MeetsAt functions turns written v (flats (stmt.Row (row.Control control.Break) ∷ more) ++ lines) braces e
 breaks {functions} {turns} {written} {v} {lines} {braces} {e} {place} more closes m =
     first (row.Control control.Break) more lines (silent
     (step_break (flats more ++ lines) braces place (end_behind more closes) functions v) m)
 
-pub continues : {functions : List Function} {turns : ℕ} {written : List ℕ} {v : Variables} {lines : List CodeLine} {braces : List Brace} {e : Expected} {place : Place} (more : List Stmt) →
+pub continues : {functions : List Function} {turns : ℕ} {written : List ℕ} {v : Variables} {lines : List CodeLine}
+    {braces : List Brace} {e : Expected} {place : Place} (more : List Stmt) →
     ClosesAt lines braces place → MeetsAt functions turns written v place.lines place.braces e →
     MeetsAt functions turns written v (flats (stmt.Row (row.Control control.Continue) ∷ more) ++ lines) braces e
 continues {functions} {turns} {written} {v} {lines} {braces} {e} {place} more closes m =
@@ -197,6 +241,8 @@ statement_laws functions turns written v lines braces e = record {
   chooses_either = λ test body other more m n. chooses_either test body other more lines m n;
   past_else = λ other m. past_else other m;
   past_close = λ m. past_close m;
+  skips_upward = λ k bound body more none m. skips_upward k bound body more lines none m;
+  skips_downward = λ k bound body more z is none m. skips_downward k bound body more lines z is none m;
   breaks = λ place more closes m. breaks more closes m;
   continues = λ place more closes m. continues more closes m;
   writes_record = λ more m. writes_record more lines m;

@@ -1,8 +1,10 @@
 -- What a run comes to from before a statement, where it is known what it comes to from where the statement leads.
-use Rattle.std.specs.Prelude.{◌≡◌, ℕ, zero, suc, ◌+◌, ◌<◌, ◌^◌, ℤ, pos, negsuc, true, false, List, ◌∷◌, ◌++◌, Result, Ok, Some, ◌≤◌, []}
+use Rattle.std.specs.Prelude.{◌≡◌, ℕ, zero, suc, ◌+◌, ◌<◌, ◌^◌, ℤ, pos, negsuc, true, false, List, ◌∷◌, ◌++◌, Result, Ok, Some}
+use Rattle.std.specs.Prelude.{◌≤◌, [], int_lt, int_le, ◌-ℤ◌}
 use Rattle.a95_base.specs.declared.fault.FaultKind.{FaultKind}
 use Rattle.a95_base.specs.Outcome.{Ended, Faulted, Finished}
 use Rattle.a95_base.specs.Record.{record_text}
+use Rattle.std.specs.Int.{w64, int_wrap}
 use Rattle.loop_tree.specs.declared.stuck.StuckState.{StuckState}
 use Rattle.loop_tree.specs.declared.atom.Atom.{Atom}
 use Rattle.loop_tree.specs.declared.atom.Argument.{Argument}
@@ -69,6 +71,15 @@ pub record StatementLaws (functions : List Function) (turns : ℕ) (written : Li
       MeetsAt functions turns written v (code.Else ∷ (flats other ++ code.Close ∷ lines)) (Choice ∷ braces) e
   pub past_close :
       MeetsAt functions turns written v lines braces e → MeetsAt functions turns written v (code.Close ∷ lines) (Choice ∷ braces) e
+  -- a loop that has no round, as one with a negative bound
+  pub skips_upward : (k : ℕ) (bound : Atom) (body more : List Stmt) → int_lt (pos 0) (value_of (with_index v k (pos 0)) bound)
+      ≡ false →
+      MeetsAt functions turns written (with_index v k (pos 0)) (flats more ++ lines) braces e →
+      MeetsAt functions turns written v (flats (stmt.ForUp k bound body ∷ more) ++ lines) braces e
+  pub skips_downward : (k : ℕ) (bound : Atom) (body more : List Stmt) (z : ℤ) → z ≡ int_wrap w64 (value_of v bound -ℤ pos 1) →
+      int_le (pos 0) z ≡ false →
+      MeetsAt functions turns written (with_index v k z) (flats more ++ lines) braces e →
+      MeetsAt functions turns written v (flats (stmt.ForDown k bound body ∷ more) ++ lines) braces e
   -- break and continue
   pub breaks : (place : Place) (more : List Stmt) →
       ClosesAt lines braces place → MeetsAt functions turns written v (rest_of place.lines) (rest_of place.braces) e →
