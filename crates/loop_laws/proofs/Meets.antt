@@ -55,7 +55,8 @@ turned {functions} {turns} {written} {s} {t} {e} is m =
     (ap (after (configuration turns written s)) is ∙ ap (λ (o : List ℕ). Some (configuration (turns + 1) o t))
     (append-nil written))) m
 
-pub gives : {A : Type 0} {functions : List Function} {turns : ℕ} {written : List ℕ} {s : State} {e : Expected} {result : Result A StuckState} {a : A} (next : A → State) →
+pub gives : {A : Type 0} {functions : List Function} {turns : ℕ} {written : List ℕ} {s : State} {e : Expected} {result : Result A StuckState} {a : A}
+    (next : A → State) →
     step functions s ≡ given result next → result ≡ Ok a → Meets functions (configuration turns written (next a)) e →
     Meets functions (configuration turns written s) e
 gives {A} {functions} {turns} {written} {s} {e} {result} {a} next is value m =
