@@ -16,3 +16,4 @@ pub mod Ends
 mod Noting
 mod Completed
 mod Lowering
+mod Built

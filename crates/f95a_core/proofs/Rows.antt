@@ -68,38 +68,38 @@ with_index v z = record v { indices = with_at (pos 0) v.indices 1 z }
 module _ (functions : List Function) (v : Vars) (rest : List CodeLine) (braces : List Brace) where
   pub step_atom : (n : ℕ) (a : Atom) → step functions (at v (code.Row (row.Int n (int.Atom a)) ∷ rest) braces) ≡ Goes false [] (at (with_int v n (atom_in v.ints v.indices a)) rest braces)
   unfolding int_value
-  step_atom n a = laws.step_int n (int.Atom a) functions (full v) rest braces
+  step_atom n a = (laws.step_int n (int.Atom a)).by functions (full v) rest braces
 
   pub step_wrap : (n : ℕ) (a : Atom) → step functions (at v (code.Row (row.Int n (int.Wrap a)) ∷ rest) braces) ≡ Goes false [] (at (with_int v n (wrapped (atom_in v.ints v.indices a))) rest braces)
   unfolding int_value
-  step_wrap n a = laws.step_int n (int.Wrap a) functions (full v) rest braces
+  step_wrap n a = (laws.step_int n (int.Wrap a)).by functions (full v) rest braces
 
   pub step_multiply : (n : ℕ) (a b : Atom) → step functions (at v (code.Row (row.Int n (int.Operation a operator.Multiply b)) ∷ rest) braces)
       ≡ Goes false [] (at (with_int v n (int_wrap w64 (atom_in v.ints v.indices a *ℤ atom_in v.ints v.indices b))) rest braces)
   unfolding int_value operation
-  step_multiply n a b = laws.step_int n (int.Operation a operator.Multiply b) functions (full v) rest braces
+  step_multiply n a b = (laws.step_int n (int.Operation a operator.Multiply b)).by functions (full v) rest braces
 
   pub step_add : (n : ℕ) (a b : Atom) → step functions (at v (code.Row (row.Int n (int.Operation a operator.Add b)) ∷ rest) braces)
       ≡ Goes false [] (at (with_int v n (int_wrap w64 (atom_in v.ints v.indices a +ℤ atom_in v.ints v.indices b))) rest braces)
   unfolding int_value operation
-  step_add n a b = laws.step_int n (int.Operation a operator.Add b) functions (full v) rest braces
+  step_add n a b = (laws.step_int n (int.Operation a operator.Add b)).by functions (full v) rest braces
 
   pub step_subtract : (n : ℕ) (a b : Atom) → step functions (at v (code.Row (row.Int n (int.Operation a operator.Subtract b)) ∷ rest) braces)
       ≡ Goes false [] (at (with_int v n (int_wrap w64 (atom_in v.ints v.indices a -ℤ atom_in v.ints v.indices b))) rest braces)
   unfolding int_value operation
-  step_subtract n a b = laws.step_int n (int.Operation a operator.Subtract b) functions (full v) rest braces
+  step_subtract n a b = (laws.step_int n (int.Operation a operator.Subtract b)).by functions (full v) rest braces
 
   -- the value of a cell
   pub step_cell : (n b : ℕ) (a : Atom) (cells : List ℤ) (z : ℤ) → ints_at v.blocks (block_at v.references b) ≡ Ok cells → int_cell cells (atom_in v.ints v.indices a) ≡ Ok z
       → step functions (at v (code.Row (row.Int n (int.Cell b a)) ∷ rest) braces) ≡ Goes false [] (at (with_int v n z) rest braces)
   unfolding int_value
   step_cell n b a cells z there value =
-      laws.step_int n (int.Cell b a) functions (full v) rest braces
+      (laws.step_int n (int.Cell b a)).by functions (full v) rest braces
       ∙ ap (λ (r : Result (List ℤ) StuckState). given (and_then r (λ c. int_cell c (atom_in v.ints v.indices a))) (λ x. at (with_int v n x) rest braces)) there
       ∙ ap (λ (r : Result ℤ StuckState). given r (λ x. at (with_int v n x) rest braces)) value
 
   pub step_line : (n : ℕ) → step functions (at v (code.Row (row.Control (control.At n)) ∷ rest) braces) ≡ Goes false [] (at (record v { line = n }) rest braces)
-  step_line n = laws.step_source_line n functions (full v) rest braces
+  step_line n = (laws.step_source_line n).by functions (full v) rest braces
 
   abbrev pub with_block : ℕ → ℕ → Vars
   with_block b n = record v {
@@ -109,32 +109,32 @@ module _ (functions : List Function) (v : Vars) (rest : List CodeLine) (braces :
   }
 
   pub step_new : (b n : ℕ) → nat_le n largest ≡ true → step functions (at v (code.Row (row.Block (block.New b (atom.Number (pos n)))) ∷ rest) braces) ≡ Goes false [] (at (with_block b n) rest braces)
-  step_new b n small = laws.step_new b (atom.Number (pos n)) functions (full v) rest braces
+  step_new b n small = (laws.step_new b (atom.Number (pos n))).by functions (full v) rest braces
       ∙ ap (λ (t : Bool). given (and_then (if t then Ok n else Err stuck.BlockSize) (λ m. Ok (Ints (replicate m (pos 0)))))
       (λ cells. at (record v { references = with_at None v.references b (Some v.made); blocks = record { number = v.made; cells = cells } ∷ v.blocks; made = v.made + 1 }) rest braces)) small
 
   pub step_temp : (b n : ℕ) → nat_le n largest ≡ true → step functions (at v (code.Row (row.Block (block.Temp b (atom.Number (pos n)))) ∷ rest) braces) ≡ Goes false [] (at (with_block b n) rest braces)
-  step_temp b n small = laws.step_temp b (atom.Number (pos n)) functions (full v) rest braces
+  step_temp b n small = (laws.step_temp b (atom.Number (pos n))).by functions (full v) rest braces
       ∙ ap (λ (t : Bool). given (and_then (if t then Ok n else Err stuck.BlockSize) (λ m. Ok (Ints (replicate m (pos 0)))))
       (λ cells. at (record v { references = with_at None v.references b (Some v.made); blocks = record { number = v.made; cells = cells } ∷ v.blocks; made = v.made + 1 }) rest braces)) small
 
   -- a store into the block of a reference
   pub step_store : (b : ℕ) (i a : Atom) (blocks : List Block) → changed v.blocks (block_at v.references b) (store_int (atom_in v.ints v.indices i) (atom_in v.ints v.indices a)) ≡ Ok blocks
       → step functions (at v (code.Row (row.Block (block.StoreInt b i a)) ∷ rest) braces) ≡ Goes false [] (at (record v { blocks = blocks }) rest braces)
-  step_store b i a blocks there = laws.step_store_int b i a functions (full v) rest braces
+  step_store b i a blocks there = (laws.step_store_int b i a).by functions (full v) rest braces
       ∙ ap (λ (r : Result (List Block) StuckState). given r (λ bs. at (record v { blocks = bs }) rest braces)) there
 
   -- a living block is freed
   pub step_free : (b m : ℕ) (cells : Cells) → block_at v.references b ≡ Some m → cells_numbered v.blocks m ≡ Some cells
       → step functions (at v (code.Row (row.Block (block.Free (reference.Ints b))) ∷ rest) braces) ≡ Goes false [] (at (record v { blocks = without v.blocks m }) rest braces)
   step_free b m cells named there =
-      laws.step_free (reference.Ints b) functions (full v) rest braces
+      (laws.step_free (reference.Ints b)).by functions (full v) rest braces
       ∙ ap (λ (r : Option ℕ). given (cells_at v.blocks r) (λ (c : Cells). at (record v { blocks = freed v.blocks r }) rest braces)) named
       ∙ ap (λ (o : Option Cells). given (cells_or_stuck o) (λ (c : Cells). at (record v { blocks = without v.blocks m }) rest braces)) there
 
   pub step_put : (a : Atom) → step functions (at v (code.Row (row.Record (record_row.PutInt a)) ∷ rest) braces)
       ≡ Goes false [] (at (record v { pending = v.pending ++ scalar.Int (wrapped (atom_in v.ints v.indices a)) ∷ [] }) rest braces)
-  step_put a = laws.step_put_int a functions (full v) rest braces
+  step_put a = (laws.step_put_int a).by functions (full v) rest braces
 
   pub step_write : step functions (at v (code.Row (row.Record record_row.Write) ∷ rest) braces) ≡ Goes false (record_text v.pending ++ 10 ∷ []) (at (record v { pending = [] }) rest braces)
   step_write = laws.step_write functions (full v) rest braces

@@ -31,7 +31,7 @@ module _ (functions : List Function) (final written : List ℕ) (extent : ℕ) (
     begun : ℕ
     limit : ℕ
 
-  points : ℕ → Points Between
+  abbrev points : ℕ → Points Between
   points cost = record {
     number = λ p. p.number;
     variables = λ p. full p.variables;
@@ -57,8 +57,9 @@ module _ (functions : List Function) (final written : List ℕ) (extent : ℕ) (
               ((r.does (cost + (extent - suc p.number)) p.number p.variables (code.Close ∷ (flats more ++ rest)) _ within is p.known
               (λ w now later. record {
                 go = λ begun most.
+                    let counted : suc p.number ≡ p.number + 1 = omega arith in
                     next (record { number = suc p.number; variables = with_index w (pos (suc p.number)); known = r.moves (suc p.number) w (pos (suc p.number)) later; begun = begun; limit = most })
-                    (full w) refl now refl;
+                    (full w) counted now refl;
               })).go (p.begun + 1) p.limit);
           left = λ p all.
               turns_are functions final (configuration p.begun written (at p.variables (flats more ++ rest) braces)) p.limit (p.begun + cost) (p.begun + (cost + (extent - p.number))) (omega arith)

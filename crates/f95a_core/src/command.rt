@@ -10,9 +10,12 @@ ghost use Rattle.f95a_core.specs.Running.{job, RunComesTo, RunsText};
 
 use crate::building::build;
 use crate::running::run;
+use crate::source::breaks_nothing;
 use crate::status::Status;
 use crate::words::{Command, command_of};
 use io_edge::{PutFault, Shelf, Sink, Source};
+use loop_text::one_program;
+use loop_tree::one_outcome;
 use std::alloc::{AllocError, Global};
 use std::fmt::Write;
 
@@ -115,6 +118,9 @@ pub fn f95a<H: Shelf, S: Source, K: Sink, N: Sink>(
         RunsText (job (H.file shelf.old name) (S.left input.old) turns)
         (stream (K.written out.old) (K.faults out.old)) (stream (K.written out.new) (K.faults out.new)) result) }
 {
+    breaks_nothing();
+    one_program();
+    one_outcome();
     match command_of(words) {
         Some(Command::BuildFile(name)) => noted(alloc, build(alloc, name, shelf, out), notes),
         Some(Command::RunFile(name, turns)) => {
