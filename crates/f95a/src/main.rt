@@ -2,7 +2,8 @@
 //! top call of `f95a_core`, whose clauses say all that it does, and ends with the code of the status.
 #![tactic(auto)]
 
-ghost use Rattle.f95a_core.specs.Building.{ComesTo, NotesAfter};
+ghost use Rattle.f95a_core.specs.Answers.{Noted};
+ghost use Rattle.f95a_core.specs.Outside.{stream};
 
 use f95a_core::{Status, code, f95a};
 use io_edge::{FileShelf, PutFault, ReaderSource, Sink, WriterSink};
@@ -28,8 +29,8 @@ fn words_or_none(rt: &HostRuntime, alloc: Global) -> Result<Vec<String>, AllocEr
 
 /// The answer where the words found no memory, with its note.
 fn no_memory<N: Sink>(notes: &mut N) -> Status
-    ensures answer { ComesTo Status.Memory result }
-    ensures notes { NotesAfter result (N.faults notes.old) (N.faults notes.new) (N.written notes.old) (N.written notes.new) }
+    ensures noted { Noted Status.Memory result
+        (stream (N.written notes.old) (N.faults notes.old)) (stream (N.written notes.new) (N.faults notes.new)) }
 {
     match notes.put(b"f95a: no memory\n") {
         Ok(()) => Status::Memory,

@@ -1,5 +1,5 @@
 -- A text is run to what its program comes to, by the laws of one program and one outcome.
-use Rattle.std.proofs.Common.{◌≡◌, ◌⊎◌, inl, inr, refl, sym, subst, ap, ◌∙◌, ℕ, ◌<◌, ◌≤◌, List, [], length, Option, Some, arith}
+use Rattle.std.proofs.Common.{◌≡◌, inl, inr, refl, sym, subst, ap, ◌∙◌, ℕ, List, [], length, Some, arith}
 use Rattle.std.specs.Io.KnownBytes.{Appends}
 use Rattle.a95_base.specs.Outcome.{Outcome, Finished, Going, Ended, Faulted}
 use Rattle.loop_tree.specs.declared.tree.Function.{Function}
@@ -10,10 +10,9 @@ use Rattle.loop_tree.specs.Program.{ReadsText}
 use Rattle.loop_text.specs.Refused.{OneProgram}
 use Rattle.f95a_core.specs.declared.status.Status.{Status}
 use Rattle.f95a_core.specs.declared.status.Status.TheVariants as status
-use Rattle.f95a_core.specs.Outside.{Files, Stream, IsTold}
-use Rattle.f95a_core.specs.Answers.{Noted, IsFailure}
+use Rattle.f95a_core.specs.Outside.{Files, Stream}
+use Rattle.f95a_core.specs.Answers.{Noted}
 use Rattle.f95a_core.specs.Running.{Job, job, Executes, WritesRun, RunComesTo, RunsText, status_of}
-use Rattle.f95a_core.specs.Intake.{input_limit}
 use Rattle.f95a_core.proofs.Noting.{one_told, same_or_failure, failure_stays}
 
 -- two runs of one text on one input are one

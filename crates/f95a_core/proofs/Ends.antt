@@ -1,5 +1,5 @@
 -- How the answer of a machine is the status of a run.
-use Rattle.std.proofs.Common.{◌≡◌, ◌≢◌, inl, inr, refl, ℕ, ◌+◌, List, [], ◌++◌, length, Option, Some, None, sym, subst, ap, ◌∙◌}
+use Rattle.std.proofs.Common.{◌≡◌, inr, refl, ℕ, List, [], ◌++◌, Option, Some, None, sym, ap, ◌∙◌}
 use Rattle.io_edge.specs.Causes.{Rose}
 use Rattle.io_edge.specs.Known.{Loads}
 use Rattle.a95_base.specs.Outcome.{Outcome, Finished, Going, Ended, Faulted}
@@ -12,7 +12,7 @@ use Rattle.loop_machine.specs.declared.end.End.TheVariants as ends
 use Rattle.loop_machine.specs.Running as machine
 use Rattle.f95a_core.specs.Outside.{Files, Stream, IsTold, NoLoadFailed}
 use Rattle.f95a_core.specs.Intake.{TakenAll}
-use Rattle.f95a_core.specs.Running.{job, Executes, WritesRun, WritesPrefixOfRun, RunComesTo, status_of_end}
+use Rattle.f95a_core.specs.Running.{job, WritesRun, WritesPrefixOfRun, RunComesTo, status_of_end}
 
 -- a file that was loaded and read as the text of a program, whose input was taken to its end
 pub record Ready (name : List ℕ) (files files' : Files) (input input' : Stream) (program : List Function) (bytes : List ℕ) : Type 0 where

@@ -17,3 +17,4 @@ mod Noting
 mod Completed
 mod Lowering
 mod Built
+mod RoundTrip

@@ -8,14 +8,9 @@ use Rattle.std.proofs.lemmas.Bool.Decides.{nat_tests}
 use Rattle.a95_base.specs.declared.scalar.Scalar.{Scalar}
 use Rattle.a95_base.specs.declared.scalar.Scalar.TheVariants as scalar
 use Rattle.a95_base.specs.Integer.{wrapped}
-use Rattle.rank_one.specs.declared.unit.Addend.{Addend}
-use Rattle.rank_one.specs.declared.unit.Term.{Term}
-use Rattle.rank_one.specs.declared.unit.Factor.{Factor}
-use Rattle.rank_one.specs.declared.unit.Factor.TheVariants as factor
 use Rattle.rank_one.specs.declared.unit.Sum.{Sum}
 use Rattle.rank_one.specs.Meaning.{array_at, sum_value, elements}
 use Rattle.loop_tree.specs.declared.stuck.StuckState.TheVariants as stuck
-use Rattle.loop_tree.specs.declared.atom.Atom.{Atom}
 use Rattle.loop_tree.specs.declared.atom.Atom.TheVariants as atom
 use Rattle.loop_tree.specs.declared.atom.Reference.TheVariants as reference
 use Rattle.loop_tree.specs.declared.row.IntValue.TheVariants as int
@@ -33,7 +28,7 @@ use Rattle.loop_tree.specs.Lines.{flats}
 use Rattle.loop_tree.specs.State.{Brace, Cells, Ints, Block, Goes, cells_numbered, cells_or_stuck, with_cells, without}
 use Rattle.loop_tree.specs.Values.{number_at, block_at, atom_in, and_then, place_in}
 use Rattle.loop_tree.specs.Machine.{step, changed, store_int}
-use Rattle.f95a_core.specs.Lowered.{set_row, load, factor_atom, times, product_code, term_code, term_atom, plus, addends_code, sum_code, sum_atom, is_factor, value_code, value_atom, at_line, fill, move, free, show}
+use Rattle.f95a_core.specs.Lowered.{set_row, value_code, value_atom, at_line, fill, move, free, show}
 use Rattle.loop_laws.proofs.Braces.{first_row, split}
 use Rattle.f95a_core.proofs.Reaching.{Good, silent}
 use Rattle.f95a_core.proofs.Rows.{Vars, at, with_int, step_line, step_cell, step_store, step_free, step_put}

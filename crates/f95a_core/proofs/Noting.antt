@@ -1,21 +1,13 @@
 -- What a command came to, with its note: the answer is that, or the failure of the note.
-use Rattle.std.proofs.Common.{◌≡◌, ◌≢◌, ◌⊎◌, inl, inr, refl, sym, subst, ap, ◌∙◌, ℕ, ◌≤◌, List, length, Option, Some}
+use Rattle.std.proofs.Common.{◌≡◌, ◌⊎◌, inl, inr, refl, sym, subst, ◌∙◌, ℕ, List, Option, Some}
 use Rattle.std.specs.Prelude.{IfSome}
-use Rattle.std.specs.Io.KnownBytes.{Appends}
-use Rattle.a95_base.specs.Outcome.{Outcome, Finished, Going, Ended, Faulted}
-use Rattle.rank_one.specs.declared.unit.Unit.{Unit}
 use Rattle.rank_one.specs.Reading.{Reads, IsBroken}
 use Rattle.rank_one.specs.Laws.{BreaksNothing}
-use Rattle.loop_tree.specs.declared.tree.Function.{Function}
-use Rattle.loop_tree.specs.State.{End, Comes, Stuck}
-use Rattle.loop_tree.specs.Run.{Mach}
-use Rattle.loop_tree.specs.Program.{ReadsText}
 use Rattle.f95a_core.specs.declared.status.Status.{Status}
 use Rattle.f95a_core.specs.declared.status.Status.TheVariants as status
 use Rattle.f95a_core.specs.Outside.{Files, Stream, IsTold}
 use Rattle.f95a_core.specs.Answers.{Noted, Answers, IsFailure}
 use Rattle.f95a_core.specs.Building.{BuildComesTo, BuildsUnbroken, BuildsNoOther}
-use Rattle.f95a_core.specs.Source.{IsUnbroken}
 
 pub answered : (result came : Status) (before after : Stream) (P : Status → Type 0) → Noted came result before after → P came → Answers result before after P
 answered result came before after P noted holds = record { came = came; noted = noted; holds = holds }

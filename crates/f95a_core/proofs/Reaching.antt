@@ -1,5 +1,5 @@
 -- From a state on, a run ends having written a given text. Facts of this form are put in front of one another, one step at a time.
-use Rattle.std.proofs.Common.{◌≡◌, ℕ, ◌+◌, ◌≤◌, true, false, List, [], ◌++◌, Some, refl, ap, sym, subst, arith}
+use Rattle.std.proofs.Common.{◌≡◌, ℕ, ◌+◌, ◌≤◌, false, List, [], ◌++◌, Some, ap, sym, subst, arith}
 use Rattle.a95_base.specs.Outcome.{Finished, Ended}
 use Rattle.loop_tree.specs.declared.tree.Function.{Function}
 use Rattle.loop_tree.specs.State.{State, Comes, Goes, Ends}

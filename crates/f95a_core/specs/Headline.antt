@@ -1,20 +1,15 @@
 -- What is built and then run does what its source means.
 use Rattle.std.specs.Prelude.{◌≡◌, ℕ, ◌≤◌, List, length, Some}
-use Rattle.a95_base.specs.Outcome.{Outcome, Finished, Going, Stop, IsPrefix}
+use Rattle.a95_base.specs.Outcome.{Outcome, Finished}
 use Rattle.loop_tree.specs.declared.stuck.StuckState.{StuckState}
-use Rattle.loop_tree.specs.State.{End, Comes, Stuck}
-use Rattle.loop_laws.specs.Follows.{DoesBackward}
+use Rattle.loop_tree.specs.State.{End, Stuck}
+use Rattle.loop_laws.specs.Follows.{DoesBackward, HasDone}
 use Rattle.loop_text.specs.Refused.{IsRefusedLine}
 use Rattle.rank_one.specs.declared.unit.Unit.{Unit}
 use Rattle.rank_one.specs.Reading.{Reads}
 use Rattle.f95a_core.specs.Building.{Builds}
 use Rattle.f95a_core.specs.Running.{job, Executes}
 use Rattle.f95a_core.specs.Source.{source_run, turn_bound}
-
--- a source that ends or faults is run to the same end; while it goes on, the run has written at least what it has
-abbrev pub RunsForward : List ℕ → Outcome Stop → List ℕ → Outcome End → Type 0
-RunsForward wanted (Finished stop) written outcome = (written ≡ wanted) × (outcome ≡ Finished (Comes stop))
-RunsForward wanted Going written outcome = IsPrefix wanted written
 
 -- The run of a text on an input, within so many turns, against the unit of its source: what the run ends or faults with,
 -- the source does; while it goes on, what it wrote begins what the source writes; it is never stuck. And with as many turns
@@ -24,7 +19,7 @@ pub record DoesAsItsSource (source input : List ℕ) (turns : ℕ) (written : Li
   pub reads : Reads source unit
   pub backward : DoesBackward (source_run unit input turns) written outcome
   pub never_stuck : (why : StuckState) → outcome ≡ Finished (Stuck why) → ⊥
-  pub forward : (n : ℕ) → turn_bound (length source) n ≤ turns → RunsForward (source_run unit input n).written (source_run unit input n).outcome written outcome
+  pub forward : (n : ℕ) → turn_bound (length source) n ≤ turns → HasDone (source_run unit input n).written (source_run unit input n).outcome written outcome
 
 -- a text of `build` is never refused, and every run of it does as its source
 pub record RunsAsMeant (source text : List ℕ) : Type 0 where

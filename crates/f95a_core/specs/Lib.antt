@@ -9,4 +9,5 @@ pub mod Building
 pub mod Running
 pub mod Compiling
 pub mod Headline
+pub mod RoundTrip
 pub mod Lowered

@@ -1,5 +1,5 @@
 -- The source language, as the rest of this crate knows it: which unit bytes read as, which rules they break, and what a unit means.
-use Rattle.std.specs.Prelude.{◌≡◌, ℕ, ◌+◌, ◌*◌, ◌^◌, List, length}
+use Rattle.std.specs.Prelude.{ℕ, ◌+◌, ◌*◌, ◌^◌, List}
 use Rattle.a95_base.specs.Outcome.{Stop, Ended, Finished, Run}
 use Rattle.rank_one.specs.declared.unit.Unit.{Unit}
 use Rattle.rank_one.specs.Meaning.{output}

@@ -2,7 +2,7 @@ use Rattle.std.proofs.Common.{◌∙◌, ap, sym, subst, Option, Some}
 use Rattle.f95a_core.specs.Commands.{Command, OnBuild, OnRun}
 use Rattle.f95a_core.specs.declared.words.Command as declared
 use Rattle.f95a_core.specs.Seen.{seen}
-use Rattle.f95a_core.specs.Outside.{files, stream}
+use Rattle.f95a_core.specs.Outside.{stream}
 use Rattle.f95a_core.specs.Building.{BuildsUnbroken, BuildsNoOther}
 use Rattle.f95a_core.specs.Running.{job, RunsText}
 use Rattle.f95a_core.proofs.Noting.{builds_unbroken, builds_no_other}

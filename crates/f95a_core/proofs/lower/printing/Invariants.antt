@@ -1,4 +1,4 @@
-use Rattle.std.proofs.Common.{◌≡◌, ◌++◌, drop, ◌∷◌, [], false}
+use Rattle.std.proofs.Common.{◌≡◌, ◌++◌, drop, ◌∷◌, false}
 use Rattle.std.specs.Prelude.{map}
 use Rattle.f95a_core.specs.Lowered.{show, extent_of, at_line}
 use Rattle.f95a_core.proofs.lower.printing.Given as goal
