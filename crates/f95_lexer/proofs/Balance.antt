@@ -2,11 +2,11 @@
 use Rattle.std.proofs.Common.{◌≡◌, ℕ, ◌+◌, Bool, true, false, ◌&&◌, ◌||◌, ◌==◌, not, cond, List, [], ◌∷◌, length, map, drop, Option, Some, None, is_some, refl, sym, ap, ◌∙◌, subst, add-one, arith}
 use Rattle.std.proofs.lemmas.Bool.Decides.{nat_tests}
 use Rattle.std.proofs.lemmas.List.{length-map, drop-drop}
+use Rattle.f95_lexer.specs.Continuation.{opened, kept}
 use Rattle.f95_lexer.specs.declared.lexeme.Lexeme.TheVariants as lexeme
 use Rattle.f95_lexer.specs.declared.lexeme.Found.{Found}
 use Rattle.f95_lexer.specs.declared.token.Mark.{Mark}
 use Rattle.f95_lexer.specs.Characters.{is_blank, is_letter, is_digit, is_name, is_delimiter, lower}
-use Rattle.f95_lexer.specs.Splicing.{opened, kept}
 use Rattle.f95_lexer.specs.Lexeme.{front, behind_front, is_nil, begins_with, found_at, word_at, word_to_point, pointed, taken, number_at, Literal, literal, text_at, symbol, symbol_at, symbol_of_one, symbol_of_two, longer_or}
 use Rattle.f95_lexer.proofs.Written.{skip, stay}
 use Rattle.f95_lexer.proofs.Unwritten.{drop_front, begun_by, second}

@@ -1,14 +1,15 @@
 -- Where no rule of lines is broken, the spliced characters are balanced.
 use Rattle.std.proofs.Common.{◌≡◌, ℕ, ◌+◌, ◌-◌, Bool, true, false, ◌&&◌, ◌==◌, not, cond, List, [], ◌∷◌, ◌++◌, Option, Some, None, refl, sym, ap, ◌∙◌, append_assoc, append-nil}
 use Rattle.std.proofs.lemmas.List.{map-append}
+use Rattle.f95_lexer.specs.Continuation.{opened, kept}
 use Rattle.f95_lexer.specs.declared.character.Character.{Character}
 use Rattle.f95_lexer.specs.declared.splice.Mode.{Mode}
 use Rattle.f95_lexer.specs.declared.splice.Mode.TheVariants.{Fresh, Goes, Inside}
-use Rattle.f95_lexer.specs.Characters.{is_blank}
+use Rattle.f95_lexer.specs.Characters.{is_blank, from_blank, is_comment, is_empty, AllPass}
 use Rattle.f95_lexer.specs.Lines.{onto, begins_with_feed, text_lines}
-use Rattle.f95_lexer.specs.Splicing.{Spliced, ends, put, breaks_rule, all_broken, fortieth, broken_at, scan, begun, line_read, from_blank, is_comment, is_empty, opened, kept, too_long, splice, spliced, unfinished, line_breaks}
+use Rattle.f95_lexer.specs.Splicing.{Spliced, ends, put, breaks_rule, all_broken, fortieth, broken_at, scan, begun, line_read, too_long, splice, spliced, unfinished, line_breaks}
 use Rattle.f95_lexer.specs.Lexeme.{bytes_of}
-use Rattle.f95_lexer.specs.Spelling.{AllPass, is_inside}
+use Rattle.f95_lexer.specs.Spelling.{is_inside}
 use Rattle.f95_lexer.proofs.Members.{Each}
 use Rattle.f95_lexer.proofs.Written.{skip, not_true}
 use Rattle.f95_lexer.proofs.Balance.{balanced}

@@ -1,5 +1,5 @@
 -- A text cuts into statements exactly where no rule is broken, and in one way.
-use Rattle.std.proofs.Common.{◌≡◌, ℕ, zero, suc, ◌≤◌, true, List, [], ◌∷◌, ◌++◌, length, map, take, drop, Some, None, Result, Ok, Err, IfOk, ◌<◌, refl, sym, ap, ◌∙◌, subst, inl, ⊎_elim}
+use Rattle.std.proofs.Common.{◌≡◌, ℕ, zero, suc, ◌≤◌, true, List, [], ◌∷◌, ◌++◌, length, map, take, drop, Some, None, Result, Ok, Err, IfOk, ◌<◌, refl, sym, ap, ◌∙◌, subst, inl, inr, ◌+◌, ⊎_elim, arith}
 use Rattle.std.proofs.lemmas.Bool.{cases_lt}
 use Rattle.std.proofs.lemmas.List.{take-map, drop-map, take-append-drop}
 use Rattle.f95_lexer.specs.declared.character.Character.{Character}
@@ -9,16 +9,22 @@ use Rattle.f95_lexer.specs.declared.lexeme.Lexeme.TheVariants as lexeme
 use Rattle.f95_lexer.specs.declared.token.Statement.{Statement}
 use Rattle.f95_lexer.specs.Characters.{is_blank}
 use Rattle.f95_lexer.specs.Lexeme.{bytes_of, found_at}
-use Rattle.f95_lexer.specs.Lines.{feeds_of}
-use Rattle.f95_lexer.specs.Splicing.{broken_at, spliced, line_breaks}
+use Rattle.a95_base.specs.Lists.{Every}
+use Rattle.f95_lexer.specs.Continuation.{Onward, Ended, GoesOn, StatementLine, HasLines, all_characters, BreaksRule}
+use Rattle.f95_lexer.specs.Limits.{longest_line}
+use Rattle.f95_lexer.specs.Lines.{feeds_of, text_lines}
+use Rattle.f95_lexer.specs.Splicing.{broken_at, spliced, unfinished, line_breaks}
 use Rattle.f95_lexer.specs.Statements.{Item, Ends, items_at, items_of, rules_of, token_breaks, lexemes_behind, lexemes_of, statements_of}
-use Rattle.f95_lexer.specs.Rules.{Member, IsBroken, long_file, breaks_of}
+use Rattle.f95_lexer.specs.Rules.{Member, Numbered, numbered, numbered_from, IsBroken, long_file, breaks_of}
 use Rattle.f95_lexer.specs.declared.token.Statements.{Statements}
 use Rattle.a95_base.specs.declared.source.PhaseError.{PhaseError}
 use Rattle.f95_lexer.specs.Spelling.{Spelled, nothing, next, Cuts}
 use Rattle.f95_lexer.proofs.Balance.{balanced, found_kept}
 use Rattle.f95_lexer.proofs.Continued.{whole_balanced, left_empty, right_empty}
-use Rattle.f95_lexer.proofs.Judging.{nothing_broken, listed_is_broken}
+use Rattle.f95_lexer.proofs.InLines.{long_line_broken}
+use Rattle.f95_lexer.proofs.Judging.{nothing_broken, listed_is_broken, long_is}
+use Rattle.f95_lexer.proofs.LinesRead.{mode_of}
+use Rattle.f95_lexer.proofs.TextRead.{has_lines, lines_spliced, LineBreak, of_line, no_further, break_sound, break_complete}
 use Rattle.f95_lexer.proofs.Spellings.{spelled_read}
 use Rattle.f95_lexer.proofs.Unwritten.{IsWritten, found_good}
 
@@ -71,24 +77,78 @@ read_spelled zero (c ∷ cs) whole h =
     (lexeme_spelled f.lexeme c (take f.further cs) (drop f.further cs) (items_of (lexemes_behind f.further cs)) here (k.closed h)
     (read_spelled f.further cs (right_empty mine behind whole) rest))
 
+nothing_goes_on : (behind : Onward) → unfinished (mode_of behind) ≡ [] → behind ≡ Ended
+nothing_goes_on Ended e = refl
+nothing_goes_on (GoesOn None from lines) e = cc
+nothing_goes_on (GoesOn (Some d) from lines) e = cc
+
+no_member : {A : Type 0} (x : A) (xs : List A) → xs ≡ [] → Member x xs → ⊥
+no_member x [] e h = h
+no_member x (y ∷ ys) e h = cc
+
+all_narrow : (n : ℕ) (texts : List (List ℕ)) → ((line : ℕ) (text : List ℕ) → Member (numbered line text) (numbered_from n texts) → longest_line < length text → ⊥) → Every (λ text. length text ≤ longest_line) texts
+all_narrow n [] f = tt
+all_narrow n (text ∷ texts) f = (
+  ⊎_elim (λ (long : longest_line < length text). absurd (f n text (inl refl) long)) (λ (short : length text ≤ longest_line). short) (cases_lt longest_line (length text)),
+  all_narrow (n + 1) texts (λ line. λ t. λ h. f line t (inr h)),
+)
+
 pub unbroken_cuts : (bytes : List ℕ) (statements : List Statement) (feeds : ℕ) → length bytes ≤ 1048576 → breaks_of bytes ≡ [] → statements ≡ statements_of (items_of (lexemes_of bytes)) → feeds ≡ feeds_of bytes → Cuts bytes statements feeds
 unbroken_cuts bytes statements feeds short none are counted =
     let lines = left_empty (line_breaks bytes) (token_breaks (lexemes_of bytes)) none in
+    let all = has_lines Ended 1 (text_lines bytes) in
+    let s = lines_spliced bytes all.lines all.behind all.read in
+    let last : all.behind ≡ Ended = nothing_goes_on all.behind (ap unfinished (sym s.mode) ∙ right_empty (spliced bytes).breaks (unfinished (spliced bytes).mode) lines) in
     record {
       short = short;
-      lines = lines;
+      narrow = all_narrow 1 (text_lines bytes) (λ line. λ text. λ h. λ long. no_member _ _ lines (long_line_broken bytes line text h long));
+      lines = all.lines;
+      read = subst (λ x. HasLines bytes all.lines x) last all.read;
+      whole = λ l. λ line. λ rule. λ h. λ b. no_member _ _ lines (break_complete bytes all.lines all.behind line rule all.read (of_line line rule (record { which = l; has = h; breaks = b })));
       items = items_of (lexemes_of bytes);
-      spelled = read_spelled 0 (spliced bytes).text (right_empty (line_breaks bytes) (token_breaks (lexemes_of bytes)) none) (whole_balanced bytes lines);
+      spelled = subst (λ t. Spelled t (items_of (lexemes_of bytes))) s.text
+          (read_spelled 0 (spliced bytes).text (right_empty (line_breaks bytes) (token_breaks (lexemes_of bytes)) none) (whole_balanced bytes lines));
       are = are;
       counted = counted;
     }
 
 -- what a text cuts into is read, and breaks no rule
+
+narrow_at : (n line : ℕ) (text : List ℕ) (texts : List (List ℕ)) → Every (λ text. length text ≤ longest_line) texts → Member (numbered line text) (numbered_from n texts) → length text ≤ longest_line
+narrow_at n line text [] e h = absurd h
+narrow_at n line text (t ∷ ts) e h = ⊎_elim
+    (λ (x : numbered line text ≡ numbered n t). subst (λ (y : Numbered). length y.text ≤ longest_line) (sym x) e.0)
+    (λ (x : Member (numbered line text) (numbered_from (n + 1) ts)). narrow_at (n + 1) line text ts e.1 x)
+    h
+
+never_goes_on : (lines : List StatementLine) (line rule : ℕ) → ((l : StatementLine) (line rule : ℕ) → Member l lines → BreaksRule l line rule → ⊥) → LineBreak lines Ended line rule → ⊥
+never_goes_on lines line rule whole (of_line n k o) = whole o.which n k o.has o.breaks
+never_goes_on lines line rule whole (no_further inside from count e) = cc
+
+all_none : {A : Type 0} (xs : List A) → ((x : A) → Member x xs → ⊥) → xs ≡ []
+all_none [] f = refl
+all_none (x ∷ xs) f = absurd (f x (inl refl))
+
+cut_lines : (bytes : List ℕ) (statements : List Statement) (feeds : ℕ) → Cuts bytes statements feeds → line_breaks bytes ≡ []
+cut_lines bytes statements feeds c = all_none (line_breaks bytes) (λ b. λ h. ⊎_elim
+    (λ (e : b.rule ≡ 3).
+    let long = long_is bytes b h e in
+    let narrow : length long.text ≤ longest_line = narrow_at 1 b.line long.text (text_lines bytes) c.narrow long.has in
+    let wide : longest_line < length long.text = long.long in
+    absurd (omega (arith, narrow, wide)))
+    (λ (x : LineBreak c.lines Ended b.line b.rule). never_goes_on c.lines b.line b.rule c.whole x)
+    (break_sound bytes c.lines Ended b c.read h))
+
 cut_statements : (bytes : List ℕ) (statements : List Statement) (feeds : ℕ) → Cuts bytes statements feeds → statements ≡ statements_of (items_of (lexemes_of bytes))
-cut_statements bytes statements feeds c = c.are ∙ ap statements_of (sym (spelled_read (spliced bytes).text c.items c.spelled).read)
+cut_statements bytes statements feeds c =
+    c.are ∙ ap statements_of (sym (spelled_read (all_characters c.lines) c.items c.spelled).read)
+    ∙ sym (ap (λ t. statements_of (items_of (lexemes_behind 0 t))) (lines_spliced bytes c.lines Ended c.read).text)
 
 cut_breaks : (bytes : List ℕ) (statements : List Statement) (feeds : ℕ) → Cuts bytes statements feeds → breaks_of bytes ≡ []
-cut_breaks bytes statements feeds c = ap (λ l. l ++ token_breaks (lexemes_of bytes)) c.lines ∙ (spelled_read (spliced bytes).text c.items c.spelled).breaks
+cut_breaks bytes statements feeds c =
+    ap (λ l. l ++ token_breaks (lexemes_of bytes)) (cut_lines bytes statements feeds c)
+    ∙ ap (λ t. token_breaks (lexemes_behind 0 t)) (lines_spliced bytes c.lines Ended c.read).text
+    ∙ (spelled_read (all_characters c.lines) c.items c.spelled).breaks
 
 pub cut_unbroken : (bytes : List ℕ) (statements : List Statement) (feeds line rule : ℕ) → Cuts bytes statements feeds → IsBroken bytes line rule → ⊥
 cut_unbroken bytes statements feeds line rule c b = nothing_broken bytes line rule c.short (cut_breaks bytes statements feeds c) b

@@ -1,11 +1,13 @@
 -- Which rules the lines break, and that lines are counted from 1.
 use Rattle.std.proofs.Common.{◌≡◌, ℕ, ◌+◌, ◌-◌, ◌<◌, ◌≤◌, ◌⊎◌, Bool, true, false, ◌&&◌, ◌==◌, nat_lt, cond, List, [], ◌∷◌, ◌++◌, length, Option, Some, None, refl, sym, ap, subst, inl, inr, ⊎_elim, arith}
 use Rattle.std.proofs.lemmas.Bool.Decides.{nat_tests}
+use Rattle.f95_lexer.specs.Continuation.{opened, kept}
+use Rattle.f95_lexer.specs.Characters.{from_blank, is_comment, is_empty}
 use Rattle.f95_lexer.specs.declared.character.Character.{Character}
 use Rattle.f95_lexer.specs.declared.character.Break.{Break}
 use Rattle.f95_lexer.specs.declared.splice.Mode.{Mode}
 use Rattle.f95_lexer.specs.declared.splice.Mode.TheVariants.{Fresh, Goes, Inside}
-use Rattle.f95_lexer.specs.Splicing.{Spliced, ends, put, breaks_rule, all_broken, fortieth, broken_at, scan, begun, line_read, from_blank, is_comment, is_empty, opened, kept, too_long, splice, spliced, unfinished, line_breaks}
+use Rattle.f95_lexer.specs.Splicing.{Spliced, ends, put, breaks_rule, all_broken, fortieth, broken_at, scan, begun, line_read, too_long, splice, spliced, unfinished, line_breaks}
 use Rattle.f95_lexer.specs.Rules.{Member, Numbered, numbered, numbered_from}
 use Rattle.f95_lexer.specs.Lines.{text_lines}
 use Rattle.f95_lexer.proofs.Members.{Each, each_append, each_weaker, each_has, has_left, has_right}

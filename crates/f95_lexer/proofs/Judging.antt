@@ -6,17 +6,30 @@ use Rattle.f95_lexer.specs.declared.character.Character.{Character}
 use Rattle.f95_lexer.specs.declared.character.Break.{Break}
 use Rattle.f95_lexer.specs.declared.lexeme.Lexeme.{Lexeme}
 use Rattle.f95_lexer.specs.declared.lexeme.Lexeme.TheVariants as lexeme
+use Rattle.f95_lexer.specs.Continuation.{Onward, Ended, GoesOn, StatementLine, HasLines}
 use Rattle.f95_lexer.specs.Lexeme.{is_dotted, found_at, bytes_of}
 use Rattle.f95_lexer.specs.Lines.{text_lines}
 use Rattle.f95_lexer.specs.Splicing.{broken_at, line_breaks, spliced}
 use Rattle.f95_lexer.specs.Statements.{Placed, lexemes_behind, lexemes_of, rules_of, if_clings, token_breaks}
-use Rattle.f95_lexer.specs.Rules.{Member, IsLine, Stands, BreaksInLines, IsBroken, ComesFirst, IsLeast, breaks_of, first_of, numbered_from, Refuses, RefusesBy}
+use Rattle.f95_lexer.specs.Rules.{Member, IsLine, Stands, BreaksInLine, FindsNoLine, IsBroken, ComesFirst, IsLeast, breaks_of, first_of, numbered_from, Refuses, RefusesBy}
 use Rattle.f95_lexer.specs.Rules as rules_of_phase
 use Rattle.a95_base.specs.declared.source.PhaseError.{PhaseError}
 use Rattle.a95_base.specs.declared.source.PhaseError.TheVariants.{Memory, Broken}
 use Rattle.f95_lexer.proofs.Members.{from_flat, into_flat, from_map, into_map, has_left, has_right, has_either, Each, each_has}
 use Rattle.f95_lexer.proofs.First.{first_of_is}
+use Rattle.f95_lexer.proofs.TextRead.{has_lines, lines_spliced, LineBreak, of_line, no_further, break_sound, break_complete}
 use Rattle.f95_lexer.proofs.InLines.{IsContinuationBreak, IsLongLine, IsCounted, text_counted, line_break_is, long_line_broken}
+
+-- What stands in what the lines leave stands in what is spliced.
+
+stands_in : (bytes : List ℕ) (line : ℕ) (l : Lexeme) → Stands bytes line l → Member (record { line = line; lexeme = l }) (lexemes_of bytes)
+stands_in bytes line l s =
+    subst (λ (t : List Character). Member (record { line = line; lexeme = l }) (lexemes_behind 0 t)) (sym (lines_spliced bytes s.0 s.1 s.2).text) s.3
+
+stands_so : (bytes : List ℕ) (line : ℕ) (l : Lexeme) → Member (record { line = line; lexeme = l }) (lexemes_of bytes) → Stands bytes line l
+stands_so bytes line l h =
+    let all = has_lines Ended 1 (text_lines bytes) in
+    (all.lines, all.behind, all.read, subst (λ (t : List Character). Member (record { line = line; lexeme = l }) (lexemes_behind 0 t)) (lines_spliced bytes all.lines all.behind all.read).text h)
 
 -- A lexeme that stands somewhere, and a rule that it breaks.
 
@@ -66,18 +79,31 @@ token_break_is bytes b h =
     let line : b.line ≡ f.source.line = ap (λ (x : Break). x.line) m.is in
     let rule : b.rule ≡ m.source = ap (λ (x : Break). x.rule) m.is in
     subst (λ l. IsBroken bytes l b.rule) (sym line) (subst (λ r. IsBroken bytes f.source.line r) (sym rule)
-    (lexeme_break bytes f.source.line m.source f.source.lexeme f.has m.has))
+    (lexeme_break bytes f.source.line m.source f.source.lexeme (stands_so bytes f.source.line f.source.lexeme f.has) m.has))
+
+line_broken : (bytes : List ℕ) (lines : List StatementLine) (behind : Onward) (line rule : ℕ) → HasLines bytes lines behind → LineBreak lines behind line rule → IsBroken bytes line rule
+line_broken bytes lines behind line rule r (of_line n k o) = rules_of_phase.in_line (lines, behind, o.which, r, o.has, o.breaks)
+line_broken bytes lines behind line rule r (no_further inside from count e) = rules_of_phase.no_further_line (lines, inside, count, subst (λ x. HasLines bytes lines x) e r)
+
+rule_not_three : (r : ℕ) → r ≡ 3 → (r ≡ 4) ⊎ ((r ≡ 5) ⊎ (r ≡ 6)) → ⊥
+rule_not_three r e (inl f) = omega (arith, e, f)
+rule_not_three r e (inr (inl f)) = omega (arith, e, f)
+rule_not_three r e (inr (inr f)) = omega (arith, e, f)
+
+-- a break by rule 3 is a long line
+pub long_is : (bytes : List ℕ) (b : Break) → Member b (line_breaks bytes) → b.rule ≡ 3 → IsLongLine (numbered_from 1 (text_lines bytes)) b
+long_is bytes b h e = ⊎_elim
+    (λ (x : IsContinuationBreak b). absurd (rule_not_three b.rule e x.rule))
+    (λ (x : IsLongLine (numbered_from 1 (text_lines bytes)) b). x)
+    (line_break_is bytes b h)
 
 line_break_broken : (bytes : List ℕ) (b : Break) → Member b (line_breaks bytes) → IsBroken bytes b.line b.rule
-line_break_broken bytes b h = ⊎_elim
-    (λ (x : IsContinuationBreak b). ⊎_elim
-    (λ (e : b.rule ≡ 4). subst (λ r. IsBroken bytes b.line r) (sym e) (rules_of_phase.many_continuations (subst (λ r. Member (broken_at b.line r) (line_breaks bytes)) e h)))
-    (λ (k : (b.rule ≡ 5) ⊎ (b.rule ≡ 6)). ⊎_elim
-    (λ (e : b.rule ≡ 5). subst (λ r. IsBroken bytes b.line r) (sym e) (rules_of_phase.open_text (subst (λ r. Member (broken_at b.line r) (line_breaks bytes)) e h)))
-    (λ (e : b.rule ≡ 6). subst (λ r. IsBroken bytes b.line r) (sym e) (rules_of_phase.bad_continuation (subst (λ r. Member (broken_at b.line r) (line_breaks bytes)) e h))) k)
-    x.rule)
-    (λ (x : IsLongLine (numbered_from 1 (text_lines bytes)) b). subst (λ r. IsBroken bytes b.line r) (sym x.rule) (rules_of_phase.long_line x.text x.has x.long))
-    (line_break_is bytes b h)
+line_break_broken bytes b h =
+    let all = has_lines Ended 1 (text_lines bytes) in
+    ⊎_elim
+    (λ (e : b.rule ≡ 3). let x = long_is bytes b h e in subst (λ r. IsBroken bytes b.line r) (sym x.rule) (rules_of_phase.long_line x.text x.has x.long))
+    (λ (x : LineBreak all.lines all.behind b.line b.rule). line_broken bytes all.lines all.behind b.line b.rule all.read x)
+    (break_sound bytes all.lines all.behind b all.read h)
 
 -- What the one list has is broken.
 pub listed_is_broken : (bytes : List ℕ) (b : Break) → Member b (breaks_of bytes) → IsBroken bytes b.line b.rule
@@ -91,7 +117,7 @@ listed_is_broken bytes b h = ⊎_elim
 in_tokens : (bytes : List ℕ) (line r : ℕ) (l : Lexeme) → Stands bytes line l → Member r (rules_of l) → Member (broken_at line r) (breaks_of bytes)
 in_tokens bytes line r l s h =
     has_right (broken_at line r) (line_breaks bytes) (token_breaks (lexemes_of bytes))
-    (into_flat breaks_at (broken_at line r) (record { line = line; lexeme = l }) (lexemes_of bytes) s (into_map (broken_at line) r (rules_of l) h))
+    (into_flat breaks_at (broken_at line r) (record { line = line; lexeme = l }) (lexemes_of bytes) (stands_in bytes line l s) (into_map (broken_at line) r (rules_of l) h))
 
 in_lines : (bytes : List ℕ) (line r : ℕ) → Member (broken_at line r) (line_breaks bytes) → Member (broken_at line r) (breaks_of bytes)
 in_lines bytes line r h = has_left (broken_at line r) (line_breaks bytes) (token_breaks (lexemes_of bytes)) h
@@ -105,13 +131,18 @@ clings_rule : (value : Option ℤ) → Member 9 (rules_of (lexeme.Number value t
 clings_rule None = inr (inl refl)
 clings_rule (Some z) = inl refl
 
+in_line_listed : (bytes : List ℕ) (line rule : ℕ) → BreaksInLine bytes line rule → Member (broken_at line rule) (line_breaks bytes)
+in_line_listed bytes line rule b = break_complete bytes b.0 b.1 line rule b.3 (of_line line rule (record { which = b.2; has = b.4; breaks = b.5 }))
+
+no_line_listed : (bytes : List ℕ) (from : ℕ) → FindsNoLine bytes from → Member (broken_at from 6) (line_breaks bytes)
+no_line_listed bytes from f = break_complete bytes f.0 (GoesOn f.1 from f.2) from 6 f.3 (no_further f.1 from f.2 refl)
+
 pub broken_is_listed : (bytes : List ℕ) (line rule : ℕ) → length bytes ≤ 1048576 → IsBroken bytes line rule → Member (broken_at line rule) (breaks_of bytes)
 broken_is_listed bytes line rule short (rules_of_phase.long_file long) = absurd (omega arith)
 broken_is_listed bytes line rule short (rules_of_phase.stray s) = in_tokens bytes line 2 lexeme.Stray s (inl refl)
 broken_is_listed bytes line rule short (rules_of_phase.long_line text s long) = in_lines bytes line 3 (long_line_broken bytes line text s long)
-broken_is_listed bytes line rule short (rules_of_phase.many_continuations h) = in_lines bytes line 4 h
-broken_is_listed bytes line rule short (rules_of_phase.open_text h) = in_lines bytes line 5 h
-broken_is_listed bytes line rule short (rules_of_phase.bad_continuation h) = in_lines bytes line 6 h
+broken_is_listed bytes line rule short (rules_of_phase.in_line b) = in_lines bytes line rule (in_line_listed bytes line rule b)
+broken_is_listed bytes line rule short (rules_of_phase.no_further_line f) = in_lines bytes line 6 (no_line_listed bytes line f)
 broken_is_listed bytes line rule short (rules_of_phase.long_word w s long) = in_tokens bytes line 7 (lexeme.Word w) s (long_rule w long)
 broken_is_listed bytes line rule short (rules_of_phase.large_number clings s) = in_tokens bytes line 8 (lexeme.Number None clings) s (inl refl)
 broken_is_listed bytes line rule short (rules_of_phase.number_runs_on value s) = in_tokens bytes line 9 (lexeme.Number value true) s (clings_rule value)
@@ -139,12 +170,23 @@ placed (suc n) (c ∷ cs) h = placed n cs h.1
 placed zero (c ∷ cs) h = (record { counted = h.0.counted }, placed (found_at c.byte (bytes_of cs)).further cs h.1)
 
 stands_counted : (bytes : List ℕ) (line : ℕ) (l : Lexeme) → Stands bytes line l → 1 ≤ line
-stands_counted bytes line l s = (each_has IsPlaced (record { line = line; lexeme = l }) (lexemes_of bytes) (placed 0 (spliced bytes).text (text_counted bytes)) s).counted
+stands_counted bytes line l s = (each_has IsPlaced (record { line = line; lexeme = l }) (lexemes_of bytes) (placed 0 (spliced bytes).text (text_counted bytes)) (stands_in bytes line l s)).counted
 
 in_line_counted : (bytes : List ℕ) (b : Break) → Member b (line_breaks bytes) → 1 ≤ b.line
 in_line_counted bytes b h = ⊎_elim
     (λ (x : IsContinuationBreak b). x.counted)
     (λ (x : IsLongLine (numbered_from 1 (text_lines bytes)) b). x.counted)
+    (line_break_is bytes b h)
+
+some_rule : (r : ℕ) → (r ≡ 4) ⊎ ((r ≡ 5) ⊎ (r ≡ 6)) → 1 ≤ r
+some_rule r (inl e) = omega (arith, e)
+some_rule r (inr (inl e)) = omega (arith, e)
+some_rule r (inr (inr e)) = omega (arith, e)
+
+in_line_rule : (bytes : List ℕ) (b : Break) → Member b (line_breaks bytes) → 1 ≤ b.rule
+in_line_rule bytes b h = ⊎_elim
+    (λ (x : IsContinuationBreak b). some_rule b.rule x.rule)
+    (λ (x : IsLongLine (numbered_from 1 (text_lines bytes)) b). omega (arith, x.rule))
     (line_break_is bytes b h)
 
 top : (line rule : ℕ) → 1 ≤ line → 1 ≤ rule → ComesFirst 1 1 line rule
@@ -158,9 +200,8 @@ first_of_all : (bytes : List ℕ) (line rule : ℕ) → IsBroken bytes line rule
 first_of_all bytes line rule (rules_of_phase.long_file long) = top 1 1 (omega arith) (omega arith)
 first_of_all bytes line rule (rules_of_phase.stray s) = top line 2 (stands_counted bytes line lexeme.Stray s) (omega arith)
 first_of_all bytes line rule (rules_of_phase.long_line text s long) = top line 3 (in_line_counted bytes (broken_at line 3) (long_line_broken bytes line text s long)) (omega arith)
-first_of_all bytes line rule (rules_of_phase.many_continuations h) = top line 4 (in_line_counted bytes (broken_at line 4) h) (omega arith)
-first_of_all bytes line rule (rules_of_phase.open_text h) = top line 5 (in_line_counted bytes (broken_at line 5) h) (omega arith)
-first_of_all bytes line rule (rules_of_phase.bad_continuation h) = top line 6 (in_line_counted bytes (broken_at line 6) h) (omega arith)
+first_of_all bytes line rule (rules_of_phase.in_line b) = let h = in_line_listed bytes line rule b in top line rule (in_line_counted bytes (broken_at line rule) h) (in_line_rule bytes (broken_at line rule) h)
+first_of_all bytes line rule (rules_of_phase.no_further_line f) = top line 6 (in_line_counted bytes (broken_at line 6) (no_line_listed bytes line f)) (omega arith)
 first_of_all bytes line rule (rules_of_phase.long_word w s long) = top line 7 (stands_counted bytes line (lexeme.Word w) s) (omega arith)
 first_of_all bytes line rule (rules_of_phase.large_number clings s) = top line 8 (stands_counted bytes line (lexeme.Number None clings) s) (omega arith)
 first_of_all bytes line rule (rules_of_phase.number_runs_on value s) = top line 9 (stands_counted bytes line (lexeme.Number value true) s) (omega arith)

@@ -1,4 +1,5 @@
 mod Balance
+mod Bodies
 mod Capped
 mod Continued
 mod Cut
@@ -7,7 +8,9 @@ mod First
 mod Gathering
 mod InLines
 mod Judging
+mod LinesRead
 mod Members
 mod Spellings
+mod TextRead
 mod Unwritten
 mod Written

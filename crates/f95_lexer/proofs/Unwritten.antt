@@ -7,10 +7,10 @@ use Rattle.f95_lexer.specs.declared.lexeme.Lexeme.TheVariants as lexeme
 use Rattle.f95_lexer.specs.declared.lexeme.Found.{Found}
 use Rattle.f95_lexer.specs.declared.token.Mark.{Mark}
 use Rattle.f95_lexer.specs.declared.token.Mark.TheVariants as mark
-use Rattle.f95_lexer.specs.Characters.{is_blank, is_letter, is_digit, is_name, is_delimiter, lower}
+use Rattle.f95_lexer.specs.Characters.{is_blank, is_letter, is_digit, is_name, is_delimiter, lower, AllPass, begins}
 use Rattle.f95_lexer.specs.Lexeme.{front, behind_front, is_nil, begins_with, found, found_at, word_at, word_to_point, pointed, value_from, clings, taken, is_dotted, number_at, Literal, literal, text_at, symbol, symbol_at, symbol_of_one, symbol_of_two, longer_or}
 use Rattle.f95_lexer.specs.Statements.{rules_of}
-use Rattle.f95_lexer.specs.Spelling.{AllPass, begins, SpellsWord, SpellsNumber, SpellsText, SpellsDotted, SpellsMark, doubled, is_inside, symbol_text}
+use Rattle.f95_lexer.specs.Spelling.{SpellsWord, SpellsNumber, SpellsText, SpellsDotted, SpellsMark, doubled, is_inside, symbol_text}
 use Rattle.f95_lexer.proofs.Written.{skip, stay, taken_none, same_one}
 
 -- A lexeme as it is written, with what follows.

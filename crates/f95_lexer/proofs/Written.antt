@@ -6,9 +6,9 @@ use Rattle.f95_lexer.specs.declared.lexeme.Lexeme.{Lexeme}
 use Rattle.f95_lexer.specs.declared.lexeme.Lexeme.TheVariants as lexeme
 use Rattle.f95_lexer.specs.declared.token.Mark.{Mark}
 use Rattle.f95_lexer.specs.declared.token.Mark.TheVariants as mark
-use Rattle.f95_lexer.specs.Characters.{is_blank, is_letter, is_digit, is_name, is_delimiter, lower}
+use Rattle.f95_lexer.specs.Characters.{is_blank, is_letter, is_digit, is_name, is_delimiter, lower, AllPass, begins}
 use Rattle.f95_lexer.specs.Lexeme.{front, behind_front, is_nil, begins_with, found, found_at, word_at, word_to_point, pointed, value_from, integer, clings, taken, begins_dotted, is_dotted, number_at, Literal, literal, one_more, holds, ended, text_at, text_lexeme, longer_or}
-use Rattle.f95_lexer.specs.Spelling.{AllPass, begins, doubled, is_inside, symbol_text}
+use Rattle.f95_lexer.specs.Spelling.{doubled, is_inside, symbol_text}
 
 pub skip : {A : Type 0} (b : Bool) (x y z : A) → b ≡ false → y ≡ z → cond b x y ≡ z
 skip b x y z no_test e = ap (λ t. cond t x y) no_test ∙ e

@@ -1,5 +1,5 @@
--- Kinds of characters.
-use Rattle.std.specs.Prelude.{ℕ, ◌+◌, Bool, ◌&&◌, ◌||◌, ◌==◌, nat_le, if◌then◌else◌}
+-- Kinds of characters, and what of a list of them is of a kind.
+use Rattle.std.specs.Prelude.{◌≡◌, ℕ, ◌+◌, Bool, true, false, ◌&&◌, ◌||◌, ◌==◌, nat_le, List, [], ◌∷◌, if◌then◌else◌}
 
 -- a tab counts as a blank
 abbrev pub is_blank : ℕ → Bool
@@ -22,3 +22,27 @@ is_delimiter c = c == 39 || c == 34
 -- the small letter of a capital
 abbrev pub lower : ℕ → ℕ
 lower c = if nat_le 65 c && nat_le c 90 then c + 32 else c
+
+-- every character passes
+abbrev pub AllPass : (ℕ → Bool) → List ℕ → Type 0
+AllPass p [] = Unit {0}
+AllPass p (c ∷ cs) = (p c ≡ true) × AllPass p cs
+
+-- these begin with a character that passes
+abbrev pub begins : (ℕ → Bool) → List ℕ → Bool
+begins p [] = false
+begins p (c ∷ _) = p c
+
+-- the characters from the first that is no blank
+abbrev pub from_blank : List ℕ → List ℕ
+from_blank [] = []
+from_blank (c ∷ cs) = if is_blank c then from_blank cs else c ∷ cs
+
+abbrev pub is_empty : List ℕ → Bool
+is_empty [] = true
+is_empty (_ ∷ _) = false
+
+-- nothing, or a comment
+abbrev pub is_comment : List ℕ → Bool
+is_comment [] = true
+is_comment (c ∷ _) = c == 33

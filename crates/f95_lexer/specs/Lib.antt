@@ -1,6 +1,7 @@
 pub mod Characters
 pub mod Limits
 pub mod Lines
+pub mod Continuation
 pub mod Splicing
 pub mod Lexeme
 pub mod Statements

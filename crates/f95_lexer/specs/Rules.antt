@@ -5,11 +5,12 @@ use Rattle.a95_base.specs.declared.source.PhaseError.TheVariants.{Memory, Broken
 use Rattle.f95_lexer.specs.declared.character.Break.{Break}
 use Rattle.f95_lexer.specs.declared.lexeme.Lexeme.{Lexeme}
 use Rattle.f95_lexer.specs.declared.lexeme.Lexeme.TheVariants as lexeme
+use Rattle.f95_lexer.specs.Continuation.{Onward, GoesOn, StatementLine, HasLines, all_characters, BreaksRule}
 use Rattle.f95_lexer.specs.Lexeme.{is_dotted}
-use Rattle.f95_lexer.specs.Limits.{P1, P2, P3, P4, P5, P6, P7, P8, P9, P10, longest_file, longest_line, longest_word}
+use Rattle.f95_lexer.specs.Limits.{P1, P2, P3, P6, P7, P8, P9, P10, longest_file, longest_line, longest_word}
 use Rattle.f95_lexer.specs.Lines.{text_lines}
 use Rattle.f95_lexer.specs.Splicing.{broken_at, line_breaks}
-use Rattle.f95_lexer.specs.Statements.{lexemes_of, token_breaks}
+use Rattle.f95_lexer.specs.Statements.{lexemes_of, lexemes_behind, token_breaks}
 
 -- x is one of them
 abbrev pub Member : {A : Type 0} → A → List A → Type 0
@@ -32,13 +33,20 @@ numbered_from n (text ∷ texts) = numbered n text ∷ numbered_from (n + 1) tex
 abbrev pub IsLine : List ℕ → ℕ → List ℕ → Type 0
 IsLine bytes line text = Member (numbered line text) (numbered_from 1 (text_lines bytes))
 
--- this begins on that line
+-- this begins on that line, in what the lines of statements leave
 abbrev pub Stands : List ℕ → ℕ → Lexeme → Type 0
-Stands bytes line l = Member (record { line = line; lexeme = l }) (lexemes_of bytes)
+Stands bytes line l =
+    (lines : List StatementLine) × (behind : Onward) × HasLines bytes lines behind
+    × Member (record { line = line; lexeme = l }) (lexemes_behind 0 (all_characters lines))
 
--- Splicing says on which lines rules 4, 5 and 6 are broken.
-abbrev pub BreaksInLines : List ℕ → ℕ → ℕ → Type 0
-BreaksInLines bytes line rule = Member (broken_at line rule) (line_breaks bytes)
+-- one of the lines of statements breaks the rule, which names that line
+abbrev pub BreaksInLine : List ℕ → ℕ → ℕ → Type 0
+BreaksInLine bytes line rule =
+    (lines : List StatementLine) × (behind : Onward) × (l : StatementLine) × HasLines bytes lines behind × Member l lines × BreaksRule l line rule
+
+-- the statement that the `&` of that line continues finds no further line
+abbrev pub FindsNoLine : List ℕ → ℕ → Type 0
+FindsNoLine bytes from = (lines : List StatementLine) × (inside : Option ℕ) × (count : ℕ) × HasLines bytes lines (GoesOn inside from count)
 
 -- the bytes break the rule on the line
 pub data IsBroken (bytes : List ℕ) : ℕ → ℕ → Type 0 where
@@ -48,12 +56,10 @@ pub data IsBroken (bytes : List ℕ) : ℕ → ℕ → Type 0 where
   stray : {line : ℕ} → Stands bytes line lexeme.Stray → IsBroken bytes line P2
   -- rule 3: a line has more than 132 characters
   long_line : {line : ℕ} (text : List ℕ) → IsLine bytes line text → longest_line < length text → IsBroken bytes line P3
-  -- rule 4: the line is the 40th continuation line of a statement
-  many_continuations : {line : ℕ} → BreaksInLines bytes line P4 → IsBroken bytes line P4
-  -- rule 5: a text is neither closed on the line nor continued
-  open_text : {line : ℕ} → BreaksInLines bytes line P5 → IsBroken bytes line P5
-  -- rule 6: a continuation isn't whole, or a line continues nothing and begins with `&`
-  bad_continuation : {line : ℕ} → BreaksInLines bytes line P6 → IsBroken bytes line P6
+  -- rules 4, 5 and 6, as `BreaksRule` says of a line
+  in_line : {line rule : ℕ} → BreaksInLine bytes line rule → IsBroken bytes line rule
+  -- rule 6: a continuation finds no further line
+  no_further_line : {line : ℕ} → FindsNoLine bytes line → IsBroken bytes line P6
   -- rule 7: a word has more than 31 characters
   long_word : {line : ℕ} (w : List ℕ) → Stands bytes line (lexeme.Word w) → longest_word < length w → IsBroken bytes line P7
   -- rule 8: a number is greater than 2147483647

@@ -6,22 +6,14 @@ use Rattle.f95_lexer.specs.declared.token.Mark.TheVariants as mark
 use Rattle.f95_lexer.specs.declared.token.Token.{Token}
 use Rattle.f95_lexer.specs.declared.token.Token.TheVariants as token
 use Rattle.f95_lexer.specs.declared.token.Statement.{Statement}
-use Rattle.f95_lexer.specs.Characters.{is_blank, is_letter, is_digit, is_name, is_delimiter, lower}
-use Rattle.f95_lexer.specs.Limits.{longest_file, longest_word}
-use Rattle.f95_lexer.specs.Lines.{feeds_of}
+use Rattle.f95_lexer.specs.Characters.{AllPass, begins, is_blank, is_letter, is_digit, is_name, is_delimiter, lower}
+use Rattle.a95_base.specs.Lists.{Every}
+use Rattle.f95_lexer.specs.Continuation.{Ended, StatementLine, HasLines, all_characters, BreaksRule}
+use Rattle.f95_lexer.specs.Limits.{longest_file, longest_line, longest_word}
+use Rattle.f95_lexer.specs.Lines.{feeds_of, text_lines}
 use Rattle.f95_lexer.specs.Lexeme.{bytes_of, value_from, clings, is_dotted}
-use Rattle.f95_lexer.specs.Splicing.{spliced, line_breaks}
+use Rattle.f95_lexer.specs.Rules.{Member}
 use Rattle.f95_lexer.specs.Statements.{Item, Ends, Stands, statements_of}
-
--- every character passes
-abbrev pub AllPass : (ℕ → Bool) → List ℕ → Type 0
-AllPass p [] = Unit {0}
-AllPass p (c ∷ cs) = (p c ≡ true) × AllPass p cs
-
--- these begin with a character that passes
-abbrev pub begins : (ℕ → Bool) → List ℕ → Bool
-begins p [] = false
-begins p (c ∷ _) = p c
 
 -- Below, written is how a token stands, and rest is what directly follows it in the text.
 
@@ -125,11 +117,14 @@ pub data Spelled : List Character → List Item → Type 0 where
       IsGap gap → Spells i written (bytes_of rest) → Spelled rest items → Spelled (gap ++ (written ++ rest)) (i ∷ items)
 
 -- The bytes cut into these statements, with so many line feeds: the file isn't too long, no line is, continuations and
--- texts are whole, and what the lines leave spells the tokens of the statements.
+-- texts are whole, the last statement ends, and what the lines leave spells the tokens of the statements.
 pub record Cuts (bytes : List ℕ) (statements : List Statement) (feeds : ℕ) : Type 0 where
   pub short : length bytes ≤ longest_file
-  pub lines : line_breaks bytes ≡ []
+  pub narrow : Every (λ text. length text ≤ longest_line) (text_lines bytes)
+  pub lines : List StatementLine
+  pub read : HasLines bytes lines Ended
+  pub whole : (l : StatementLine) (line rule : ℕ) → Member l lines → BreaksRule l line rule → ⊥
   pub items : List Item
-  pub spelled : Spelled (spliced bytes).text items
+  pub spelled : Spelled (all_characters lines) items
   pub are : statements ≡ statements_of items
   pub counted : feeds ≡ feeds_of bytes

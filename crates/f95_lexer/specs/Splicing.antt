@@ -1,12 +1,13 @@
 -- What comments and continuations leave of the lines of a text: one run of characters, in which a line feed ends each statement.
-use Rattle.std.specs.Prelude.{ℕ, ◌+◌, ◌-◌, Bool, true, false, ◌&&◌, ◌==◌, nat_lt, List, [], ◌∷◌, ◌++◌, length, Option, Some, None, if◌then◌else◌}
+use Rattle.std.specs.Prelude.{ℕ, ◌+◌, ◌-◌, ◌&&◌, ◌==◌, nat_lt, List, [], ◌∷◌, ◌++◌, length, Option, Some, None, if◌then◌else◌}
 use Rattle.f95_lexer.specs.declared.character.Character.{Character}
 use Rattle.f95_lexer.specs.declared.character.Break.{Break}
 use Rattle.f95_lexer.specs.declared.splice.Mode.{Mode}
 use Rattle.f95_lexer.specs.declared.splice.Mode.TheVariants.{Fresh, Goes, Inside}
 use Rattle.f95_lexer.specs.declared.splice.Next.{Next}
 use Rattle.f95_lexer.specs.declared.splice.Next.TheVariants as following
-use Rattle.f95_lexer.specs.Characters.{is_blank, is_delimiter}
+use Rattle.f95_lexer.specs.Characters.{from_blank, is_empty, is_comment}
+use Rattle.f95_lexer.specs.Continuation.{opened, kept, character}
 use Rattle.f95_lexer.specs.Limits.{P3, P4, P5, P6, longest_line, too_many_lines}
 use Rattle.f95_lexer.specs.Lines.{text_lines}
 
@@ -18,9 +19,6 @@ pub record Spliced : Type 0 where
 
 abbrev pub ends : Mode → Spliced
 ends m = record { text = []; breaks = []; mode = m }
-
-abbrev pub character : ℕ → ℕ → Character
-character c line = record { byte = c; line = line }
 
 abbrev pub broken_at : ℕ → ℕ → Break
 broken_at line r = record { line = line; rule = r }
@@ -44,27 +42,6 @@ open_text line rest = breaks_rule line P5 rest
 -- rule 6: the continuation that begins or stands on the line isn't whole
 abbrev pub bad_continuation : ℕ → Spliced → Spliced
 bad_continuation line rest = breaks_rule line P6 rest
-
--- the characters from the first that is no blank
-abbrev pub from_blank : List ℕ → List ℕ
-from_blank [] = []
-from_blank (c ∷ cs) = if is_blank c then from_blank cs else c ∷ cs
-
-abbrev pub is_empty : List ℕ → Bool
-is_empty [] = true
-is_empty (_ ∷ _) = false
-
--- nothing, or a comment
-abbrev pub is_comment : List ℕ → Bool
-is_comment [] = true
-is_comment (c ∷ _) = c == 33
-
--- the text that a character outside of texts begins, and the text that is open behind a character inside of one
-abbrev pub opened : ℕ → Option ℕ
-opened c = if is_delimiter c then Some c else None
-
-abbrev pub kept : ℕ → ℕ → Option ℕ
-kept delimiter c = if c == delimiter then None else Some delimiter
 
 -- The rest of a line, outside of texts or inside of one with that delimiter. Outside, `!` begins a comment and `;` ends
 -- a statement. Behind an `&` that is the last character, but for blanks and outside of texts a comment, the statement goes on.

@@ -1,6 +1,8 @@
 //! The lines of a text spliced into one run of characters, without comments and continuations.
 ghost use Rattle.std.specs.Prelude.{◌≡◌, ◌+◌, ◌-◌, ◌++◌, ◌∷◌, ◌<◌, ◌≤◌, ◌^◌, [], length, IfOk, OnOk};
-ghost use Rattle.f95_lexer.specs.Splicing.{Spliced, from_blank, is_comment, is_empty, opened, kept, character, broken_at, scan, scanned, begun, line_read, behind, fortieth, spliced, line_breaks, too_long, unfinished};
+ghost use Rattle.f95_lexer.specs.Continuation.{opened, kept, character};
+ghost use Rattle.f95_lexer.specs.Characters.{from_blank, is_comment, is_empty};
+ghost use Rattle.f95_lexer.specs.Splicing.{Spliced, broken_at, scan, scanned, begun, line_read, behind, fortieth, spliced, line_breaks, too_long, unfinished};
 ghost use Rattle.f95_lexer.specs.Lines.{text_lines};
 
 use crate::character::{Break, Character, is_blank, is_delimiter};

@@ -1,5 +1,5 @@
 use Rattle.std.proofs.Common.{◌≡◌, length}
-use Rattle.f95_lexer.specs.Splicing.{from_blank}
+use Rattle.f95_lexer.specs.Characters.{from_blank}
 use Rattle.f95_lexer.proofs.splice.from_blank.Given as goal
 
 abbrev pub invariant-loop-text : goal.invariant-loop-text
