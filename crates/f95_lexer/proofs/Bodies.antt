@@ -1,11 +1,13 @@
 -- The body of a line as a function, and that scanning a line gives what its body says.
-use Rattle.std.proofs.Common.{◌≡◌, ℕ, Bool, true, false, ◌&&◌, ◌||◌, ◌==◌, cond, List, [], ◌∷◌, ◌++◌, map, Option, Some, None, refl, sym, ap, ◌∙◌, subst, arith}
+use Rattle.std.proofs.Common.{◌≡◌, ℕ, Bool, true, false, ◌&&◌, ◌||◌, ◌==◌, cond, List, [], ◌∷◌, ◌++◌, map, Option, Some, None, refl}
+use Rattle.std.proofs.Common.{sym, ap, ◌∙◌, subst, arith}
 use Rattle.std.proofs.lemmas.Bool.Decides.{nat_tests}
 use Rattle.f95_lexer.specs.declared.character.Break.{Break}
 use Rattle.f95_lexer.specs.declared.splice.Mode.{Mode}
 use Rattle.f95_lexer.specs.declared.splice.Mode.TheVariants.{Fresh, Goes, Inside}
 use Rattle.f95_lexer.specs.Characters.{AllPass, is_blank, is_delimiter, from_blank, is_empty, is_comment}
-use Rattle.f95_lexer.specs.Continuation.{opened, kept, open_behind, HasNoComment, IsCode, whole, commented, IsContinued, goes_on, ends, HasBody, has_semicolon, parted, character}
+use Rattle.f95_lexer.specs.Continuation.{opened, kept, open_behind, HasNoComment, IsCode, whole, commented, IsContinued, goes_on}
+use Rattle.f95_lexer.specs.Continuation.{ends, HasBody, has_semicolon, parted, character}
 use Rattle.f95_lexer.specs.Limits.{P5, too_many_lines}
 use Rattle.f95_lexer.specs.Splicing.{Spliced, put, broken_at, scan}
 use Rattle.f95_lexer.specs.Splicing as splicing
@@ -58,7 +60,8 @@ empty_blank : (gap : List ℕ) → is_empty (from_blank gap) ≡ true → AllPas
 empty_blank [] e = tt
 empty_blank (c ∷ cs) e = go (is_blank c) refl (empty_blank cs) e
   where
-    go : (b : Bool) → is_blank c ≡ b → (is_empty (from_blank cs) ≡ true → AllPass is_blank cs) → is_empty (cond b (from_blank cs) (c ∷ cs)) ≡ true → AllPass is_blank (c ∷ cs)
+    go : (b : Bool) → is_blank c ≡ b → (is_empty (from_blank cs) ≡ true → AllPass is_blank cs)
+        → is_empty (cond b (from_blank cs) (c ∷ cs)) ≡ true → AllPass is_blank (c ∷ cs)
     go true is more k = (is, more k)
     go false is more k = absurd (never (sym k))
 
@@ -79,12 +82,14 @@ code_whole None (c ∷ cs) h = go (c == 33) refl (code_whole (opened c) cs (no_c
     go false e more = ap (λ l. c ∷ l) more
 code_whole (Some d) (c ∷ cs) h = ap (λ l. c ∷ l) (code_whole (kept d c) cs (no_comment_in d c cs h))
 
-code_before : (inside : Option ℕ) (code comment : List ℕ) → HasNoComment inside code → open_behind inside code ≡ None → code_of inside (code ++ 33 ∷ comment) ≡ code
+code_before : (inside : Option ℕ) (code comment : List ℕ) → HasNoComment inside code → open_behind inside code ≡ None
+    → code_of inside (code ++ 33 ∷ comment) ≡ code
 code_before None [] comment h shut = refl
 code_before (Some d) [] comment h shut = cc
 code_before None (c ∷ cs) comment h shut = go (c == 33) refl (code_before (opened c) cs comment (no_comment_rest c cs h) shut)
   where
-    go : (b : Bool) → c == 33 ≡ b → code_of (opened c) (cs ++ 33 ∷ comment) ≡ cs → cond b [] (c ∷ code_of (opened c) (cs ++ 33 ∷ comment)) ≡ c ∷ cs
+    go : (b : Bool) → c == 33 ≡ b → code_of (opened c) (cs ++ 33 ∷ comment) ≡ cs
+        → cond b [] (c ∷ code_of (opened c) (cs ++ 33 ∷ comment)) ≡ c ∷ cs
     go true e more = absurd (h [] cs (ap (λ x. x ∷ cs) (same_code c 33 e)) refl)
     go false e more = ap (λ l. c ∷ l) more
 code_before (Some d) (c ∷ cs) comment h shut = ap (λ l. c ∷ l) (code_before (kept d c) cs comment (no_comment_in d c cs h) shut)
@@ -98,7 +103,8 @@ no_comment_nil [] comment e = cc
 no_comment_nil (c ∷ cs) comment e = cc
 
 -- no comment begins at the first character, and none behind it
-no_comment_at : (c : ℕ) (cs : List ℕ) → c == 33 ≡ false → HasNoComment (opened c) cs → (front comment : List ℕ) → c ∷ cs ≡ front ++ 33 ∷ comment → open_behind None front ≡ None → ⊥
+no_comment_at : (c : ℕ) (cs : List ℕ) → c == 33 ≡ false → HasNoComment (opened c) cs → (front comment : List ℕ)
+    → c ∷ cs ≡ front ++ 33 ∷ comment → open_behind None front ≡ None → ⊥
 no_comment_at c cs other h [] comment e shut =
     let same : c ≡ 33 = cc in
     never (sym (ap (λ x. x == 33) same) ∙ other)
@@ -107,7 +113,8 @@ no_comment_at c cs other h (f ∷ fs) comment e shut =
     let rest : cs ≡ fs ++ 33 ∷ comment = cc in
     h fs comment rest (subst (λ x. open_behind (opened x) fs ≡ None) same shut)
 
-no_comment_inside_at : (d c : ℕ) (cs : List ℕ) → HasNoComment (kept d c) cs → (front comment : List ℕ) → c ∷ cs ≡ front ++ 33 ∷ comment → open_behind (Some d) front ≡ None → ⊥
+no_comment_inside_at : (d c : ℕ) (cs : List ℕ) → HasNoComment (kept d c) cs → (front comment : List ℕ)
+    → c ∷ cs ≡ front ++ 33 ∷ comment → open_behind (Some d) front ≡ None → ⊥
 no_comment_inside_at d c cs h [] comment e shut = cc
 no_comment_inside_at d c cs h (f ∷ fs) comment e shut =
     let same : f ≡ c = cc in
@@ -126,8 +133,11 @@ has_code : (inside : Option ℕ) (text : List ℕ) → IsCode inside text (code_
 has_code inside [] = whole [] (λ front. λ comment. λ e. λ shut. no_comment_nil front comment e)
 has_code None (c ∷ cs) = go (c == 33) refl (has_code (opened c) cs)
   where
-    go : (b : Bool) → c == 33 ≡ b → IsCode (opened c) cs (code_of (opened c) cs) → IsCode None (c ∷ cs) (cond b [] (c ∷ code_of (opened c) cs))
-    go true e more = subst (λ x. IsCode None (x ∷ cs) []) (sym (same_code c 33 e)) (commented [] cs (λ front. λ comment. λ k. λ shut. no_comment_nil front comment k) refl)
+    go : (b : Bool) → c == 33 ≡ b → IsCode (opened c) cs (code_of (opened c) cs)
+        → IsCode None (c ∷ cs) (cond b [] (c ∷ code_of (opened c) cs))
+    go true e more =
+        subst (λ x. IsCode None (x ∷ cs) []) (sym (same_code c 33 e))
+        (commented [] cs (λ front. λ comment. λ k. λ shut. no_comment_nil front comment k) refl)
     go false e more = code_more c cs (code_of (opened c) cs) e more
 has_code (Some d) (c ∷ cs) = code_more_inside d c cs (code_of (kept d c) cs) (has_code (kept d c) cs)
 
@@ -137,12 +147,15 @@ before_ampersand : (body gap : List ℕ) → is_empty (from_blank (body ++ 38 �
 before_ampersand [] gap = refl
 before_ampersand (c ∷ cs) gap = go (is_blank c) (before_ampersand cs gap)
   where
-    go : (b : Bool) → is_empty (from_blank (cs ++ 38 ∷ gap)) ≡ false → is_empty (cond b (from_blank (cs ++ 38 ∷ gap)) (c ∷ (cs ++ 38 ∷ gap))) ≡ false
+    go : (b : Bool) → is_empty (from_blank (cs ++ 38 ∷ gap)) ≡ false
+        → is_empty (cond b (from_blank (cs ++ 38 ∷ gap)) (c ∷ (cs ++ 38 ∷ gap))) ≡ false
     go true more = more
     go false more = refl
 
-goes_on_is : (body gap : List ℕ) → AllPass is_blank gap → (body ≡ body_of (body ++ 38 ∷ gap)) × (true ≡ continued_of (body ++ 38 ∷ gap))
-goes_on_is [] gap a = (sym (stay (is_empty (from_blank gap)) _ _ (blank_empty gap a)), sym (stay (is_empty (from_blank gap)) _ _ (blank_empty gap a)))
+goes_on_is : (body gap : List ℕ) → AllPass is_blank gap → (body ≡ body_of (body ++ 38 ∷ gap))
+    × (true ≡ continued_of (body ++ 38 ∷ gap))
+goes_on_is [] gap a =
+    (sym (stay (is_empty (from_blank gap)) _ _ (blank_empty gap a)), sym (stay (is_empty (from_blank gap)) _ _ (blank_empty gap a)))
 goes_on_is (c ∷ cs) gap a =
     let other : ends_here c (cs ++ 38 ∷ gap) ≡ false = and_false (c == 38) _ (before_ampersand cs gap) in
     let rest = goes_on_is cs gap a in (
@@ -150,15 +163,19 @@ goes_on_is (c ∷ cs) gap a =
       rest.1 ∙ sym (skip (ends_here c (cs ++ 38 ∷ gap)) _ _ _ other refl),
     )
 
-ends_is : (code : List ℕ) → ((body gap : List ℕ) → AllPass is_blank gap → code ≡ body ++ 38 ∷ gap → ⊥) → (code ≡ body_of code) × (false ≡ continued_of code)
+ends_is : (code : List ℕ) → ((body gap : List ℕ) → AllPass is_blank gap → code ≡ body ++ 38 ∷ gap → ⊥) → (code ≡ body_of code)
+    × (false ≡ continued_of code)
 ends_is [] h = (refl, refl)
 ends_is (c ∷ cs) h = go (ends_here c cs) refl (ends_is cs (λ body. λ gap. λ a. λ k. h (c ∷ body) gap a (ap (λ l. c ∷ l) k)))
   where
-    go : (b : Bool) → ends_here c cs ≡ b → (cs ≡ body_of cs) × (false ≡ continued_of cs) → (c ∷ cs ≡ cond b [] (c ∷ body_of cs)) × (false ≡ cond b true (continued_of cs))
-    go true e more = absurd (h [] cs (empty_blank cs (second (c == 38) _ e)) (ap (λ x. x ∷ cs) (same_code c 38 (first (c == 38) _ e))))
+    go : (b : Bool) → ends_here c cs ≡ b → (cs ≡ body_of cs) × (false ≡ continued_of cs) → (c ∷ cs ≡ cond b [] (c ∷ body_of cs))
+        × (false ≡ cond b true (continued_of cs))
+    go true e more =
+        absurd (h [] cs (empty_blank cs (second (c == 38) _ e)) (ap (λ x. x ∷ cs) (same_code c 38 (first (c == 38) _ e))))
     go false e more = (ap (λ l. c ∷ l) more.0, more.1)
 
-continued_is : (code body : List ℕ) (continued : Bool) → IsContinued code body continued → (body ≡ body_of code) × (continued ≡ continued_of code)
+continued_is : (code body : List ℕ) (continued : Bool) → IsContinued code body continued → (body ≡ body_of code)
+    × (continued ≡ continued_of code)
 continued_is code body continued (goes_on same gap a) = goes_on_is same gap a
 continued_is code body continued (ends same h) = ends_is same h
 
@@ -166,14 +183,16 @@ no_ampersand : (body gap : List ℕ) → [] ≡ body ++ 38 ∷ gap → ⊥
 no_ampersand [] gap e = cc
 no_ampersand (c ∷ cs) gap e = cc
 
-not_at : (c : ℕ) (cs : List ℕ) → ends_here c cs ≡ false → ((body gap : List ℕ) → AllPass is_blank gap → cs ≡ body ++ 38 ∷ gap → ⊥) → (body gap : List ℕ) → AllPass is_blank gap → c ∷ cs ≡ body ++ 38 ∷ gap → ⊥
+not_at : (c : ℕ) (cs : List ℕ) → ends_here c cs ≡ false → ((body gap : List ℕ) → AllPass is_blank gap → cs ≡ body ++ 38 ∷ gap → ⊥)
+    → (body gap : List ℕ) → AllPass is_blank gap → c ∷ cs ≡ body ++ 38 ∷ gap → ⊥
 not_at c cs other h [] gap a e =
     let same : c ≡ 38 = cc in
     let rest : cs ≡ gap = cc in
     never (sym (ap (λ x. ends_here x cs) same ∙ ap (λ l. is_empty (from_blank l)) rest ∙ blank_empty gap a) ∙ other)
 not_at c cs other h (b ∷ bs) gap a e = let rest : cs ≡ bs ++ 38 ∷ gap = cc in h bs gap a rest
 
-continued_more : (c : ℕ) (cs body : List ℕ) (continued : Bool) → ends_here c cs ≡ false → IsContinued cs body continued → IsContinued (c ∷ cs) (c ∷ body) continued
+continued_more : (c : ℕ) (cs body : List ℕ) (continued : Bool) → ends_here c cs ≡ false → IsContinued cs body continued
+    → IsContinued (c ∷ cs) (c ∷ body) continued
 continued_more c cs body continued other (goes_on same gap a) = goes_on (c ∷ same) gap a
 continued_more c cs body continued other (ends same h) = ends (c ∷ same) (not_at c same other h)
 
@@ -181,15 +200,21 @@ has_ending : (code : List ℕ) → IsContinued code (body_of code) (continued_of
 has_ending [] = ends [] (λ body. λ gap. λ a. λ e. no_ampersand body gap e)
 has_ending (c ∷ cs) = go (ends_here c cs) refl (has_ending cs)
   where
-    go : (b : Bool) → ends_here c cs ≡ b → IsContinued cs (body_of cs) (continued_of cs) → IsContinued (c ∷ cs) (cond b [] (c ∷ body_of cs)) (cond b true (continued_of cs))
-    go true e more = subst (λ x. IsContinued (x ∷ cs) [] true) (sym (same_code c 38 (first (c == 38) _ e))) (goes_on [] cs (empty_blank cs (second (c == 38) _ e)))
+    go : (b : Bool) → ends_here c cs ≡ b → IsContinued cs (body_of cs) (continued_of cs)
+        → IsContinued (c ∷ cs) (cond b [] (c ∷ body_of cs)) (cond b true (continued_of cs))
+    go true e more =
+        subst (λ x. IsContinued (x ∷ cs) [] true) (sym (same_code c 38 (first (c == 38) _ e)))
+        (goes_on [] cs (empty_blank cs (second (c == 38) _ e)))
     go false e more = continued_more c cs (body_of cs) (continued_of cs) e more
 
 -- each text has a body, and one only
-pub has_body : (inside : Option ℕ) (text : List ℕ) → HasBody inside text (body_of (code_of inside text)) (continued_of (code_of inside text))
-has_body inside text = record { code = code_of inside text; uncommented = has_code inside text; ending = has_ending (code_of inside text) }
+pub has_body : (inside : Option ℕ) (text : List ℕ)
+    → HasBody inside text (body_of (code_of inside text)) (continued_of (code_of inside text))
+has_body inside text =
+    record { code = code_of inside text; uncommented = has_code inside text; ending = has_ending (code_of inside text) }
 
-pub body_is : (inside : Option ℕ) (text body : List ℕ) (continued : Bool) → HasBody inside text body continued → (body ≡ body_of (code_of inside text)) × (continued ≡ continued_of (code_of inside text))
+pub body_is : (inside : Option ℕ) (text body : List ℕ) (continued : Bool) → HasBody inside text body continued
+    → (body ≡ body_of (code_of inside text)) × (continued ≡ continued_of (code_of inside text))
 body_is inside text body continued h =
     let code = code_is inside text h.code h.uncommented in
     let e = continued_is h.code body continued h.ending in
@@ -226,7 +251,8 @@ pub comment_code : (cs : List ℕ) → is_empty (from_blank (code_of None cs)) �
 comment_code [] = refl
 comment_code (c ∷ cs) = go (c == 33) (is_blank c) (comment_code cs) refl refl
   where
-    go : (b g : Bool) → is_empty (from_blank (code_of None cs)) ≡ is_comment (from_blank cs) → c == 33 ≡ b → is_blank c ≡ g → is_empty (from_blank (cond b [] (c ∷ code_of (opened c) cs))) ≡ is_comment (cond g (from_blank cs) (c ∷ cs))
+    go : (b g : Bool) → is_empty (from_blank (code_of None cs)) ≡ is_comment (from_blank cs) → c == 33 ≡ b → is_blank c ≡ g
+        → is_empty (from_blank (cond b [] (c ∷ code_of (opened c) cs))) ≡ is_comment (cond g (from_blank cs) (c ∷ cs))
     go true true more e f = let not_both : ⊥ = grind (arith, nat_tests) in absurd not_both
     go true false more e f = sym e
     go false true more e f =
@@ -237,11 +263,14 @@ comment_code (c ∷ cs) = go (c == 33) (is_blank c) (comment_code cs) refl refl
     go false false more e f = ap (λ t. is_empty (cond t (from_blank (code_of (opened c) cs)) (c ∷ code_of (opened c) cs))) f ∙ sym e
 
 -- inside of a text it isn't
-pub text_code : (d : ℕ) (cs : List ℕ) → is_delimiter d ≡ true → is_empty (from_blank (code_of (Some d) cs)) ≡ is_empty (from_blank cs)
+pub text_code : (d : ℕ) (cs : List ℕ) → is_delimiter d ≡ true
+    → is_empty (from_blank (code_of (Some d) cs)) ≡ is_empty (from_blank cs)
 text_code d [] h = refl
 text_code d (c ∷ cs) h = go (is_blank c) (text_code d cs h) refl
   where
-    go : (g : Bool) → is_empty (from_blank (code_of (Some d) cs)) ≡ is_empty (from_blank cs) → is_blank c ≡ g → is_empty (cond g (from_blank (code_of (kept d c) cs)) (c ∷ code_of (kept d c) cs)) ≡ is_empty (cond g (from_blank cs) (c ∷ cs))
+    go : (g : Bool) → is_empty (from_blank (code_of (Some d) cs)) ≡ is_empty (from_blank cs) → is_blank c ≡ g
+        → is_empty (cond g (from_blank (code_of (kept d c) cs)) (c ∷ code_of (kept d c) cs))
+        ≡ is_empty (cond g (from_blank cs) (c ∷ cs))
     go true more f =
         let other : c == d ≡ false = grind (arith, nat_tests) in
         ap (λ o. is_empty (from_blank (code_of o cs))) (ap (λ t. cond t None (Some d)) other) ∙ more
@@ -267,18 +296,21 @@ said inside line left body continued = record {
 abbrev said_of : Option ℕ → ℕ → ℕ → List ℕ → Spliced
 said_of inside line left code = said inside line left (body_of code) (continued_of code)
 
-said_plain : (c line left : ℕ) (body : List ℕ) (continued : Bool) → c == 59 ≡ false → said None line left (c ∷ body) continued ≡ put c line (said (opened c) line left body continued)
+said_plain : (c line left : ℕ) (body : List ℕ) (continued : Bool) → c == 59 ≡ false
+    → said None line left (c ∷ body) continued ≡ put c line (said (opened c) line left body continued)
 said_plain c line left body continued e = ap (λ (b : Bool). record {
   text = map (λ x. character x line) ((cond b 10 c ∷ parted (opened c) body) ++ cond continued [] (10 ∷ []));
   breaks = cond continued [] (open_break line (open_behind (opened c) body));
-  mode = cond continued (mode_at (open_behind (opened c) body) line (cond (b || has_semicolon (opened c) body) too_many_lines left)) Fresh;
+  mode = cond continued
+      (mode_at (open_behind (opened c) body) line (cond (b || has_semicolon (opened c) body) too_many_lines left)) Fresh;
 }) e
 
 either_way : (b : Bool) (n : ℕ) → n ≡ cond b n n
 either_way true n = refl
 either_way false n = refl
 
-said_semicolon : (line left : ℕ) (body : List ℕ) (continued : Bool) → said None line left (59 ∷ body) continued ≡ put 10 line (said None line too_many_lines body continued)
+said_semicolon : (line left : ℕ) (body : List ℕ) (continued : Bool)
+    → said None line left (59 ∷ body) continued ≡ put 10 line (said None line too_many_lines body continued)
 said_semicolon line left body continued = ap (λ (n : ℕ). record {
   text = map (λ x. character x line) ((10 ∷ parted None body) ++ cond continued [] (10 ∷ []));
   breaks = cond continued [] (open_break line (open_behind None body));
@@ -290,9 +322,11 @@ ScanIs line left cs x = scan None line left (x ∷ cs) ≡ said_of None line lef
 
 -- the same of the rest of the line
 abbrev ScansRest : ℕ → List ℕ → Type 0
-ScansRest line cs = (inside : Option ℕ) (left : ℕ) → IsContext inside → scan inside line left cs ≡ said_of inside line left (code_of inside cs)
+ScansRest line cs =
+    (inside : Option ℕ) (left : ℕ) → IsContext inside → scan inside line left cs ≡ said_of inside line left (code_of inside cs)
 
-pub scan_is : (inside : Option ℕ) (line left : ℕ) (text : List ℕ) → IsContext inside → scan inside line left text ≡ said_of inside line left (code_of inside text)
+pub scan_is : (inside : Option ℕ) (line left : ℕ) (text : List ℕ) → IsContext inside
+    → scan inside line left text ≡ said_of inside line left (code_of inside text)
 scan_is None line left [] h = refl
 scan_is (Some d) line left [] h = refl
 scan_is None line left (c ∷ cs) h = by_comment (λ o. λ n. λ k. scan_is o line n cs k) (c == 33) refl
@@ -301,23 +335,33 @@ scan_is None line left (c ∷ cs) h = by_comment (λ o. λ n. λ k. scan_is o li
     ampersand more true e =
         let same = comment_code cs ∙ e in
         stay (is_comment (from_blank cs)) _ _ e
-        ∙ sym (ap (λ t. said None line left (cond t [] (38 ∷ body_of (code_of None cs))) (cond t true (continued_of (code_of None cs)))) same)
+        ∙ sym
+        (ap (λ t. said None line left (cond t [] (38 ∷ body_of (code_of None cs)))
+        (cond t true (continued_of (code_of None cs)))) same)
     ampersand more false e =
         let same = comment_code cs ∙ e in
         skip (is_comment (from_blank cs)) _ _ _ e (ap (put 38 line) (more None left tt))
-        ∙ sym (ap (λ t. said None line left (cond t [] (38 ∷ body_of (code_of None cs))) (cond t true (continued_of (code_of None cs)))) same)
+        ∙ sym
+        (ap (λ t. said None line left (cond t [] (38 ∷ body_of (code_of None cs)))
+        (cond t true (continued_of (code_of None cs)))) same)
 
     others : ScansRest line cs → c == 33 ≡ false → c == 59 ≡ false → c == 38 ≡ false → ScanIs line left cs c
     others more no_comment no_semicolon no_ampersand_here =
         let code = code_of (opened c) cs in
-        skip (c == 33) _ _ _ no_comment (skip (c == 59) _ _ _ no_semicolon (ap (λ t. cond (t && is_comment (from_blank cs)) (splicing.ends (Goes line left)) (put c line (scan (opened c) line left cs))) no_ampersand_here))
+        skip (c == 33) _ _ _ no_comment
+        (skip (c == 59) _ _ _ no_semicolon
+        (ap (λ t. cond (t && is_comment (from_blank cs)) (splicing.ends (Goes line left))
+        (put c line (scan (opened c) line left cs))) no_ampersand_here))
         ∙ ap (put c line) (more (opened c) left (opened_context c))
         ∙ sym (said_plain c line left (body_of code) (continued_of code) no_semicolon)
-        ∙ sym (ap (λ t. said None line left (cond (t && is_empty (from_blank code)) [] (c ∷ body_of code)) (cond (t && is_empty (from_blank code)) true (continued_of code))) no_ampersand_here)
+        ∙ sym
+        (ap (λ t. said None line left (cond (t && is_empty (from_blank code)) [] (c ∷ body_of code))
+        (cond (t && is_empty (from_blank code)) true (continued_of code))) no_ampersand_here)
         ∙ sym (ap (λ t. said_of None line left (cond t [] (c ∷ code))) no_comment)
 
     by_ampersand : ScansRest line cs → (b : Bool) → c == 33 ≡ false → c == 59 ≡ false → c == 38 ≡ b → ScanIs line left cs c
-    by_ampersand more true e f g = subst (ScanIs line left cs) (sym (same_code c 38 g)) (ampersand more (is_comment (from_blank cs)) refl)
+    by_ampersand more true e f g =
+        subst (ScanIs line left cs) (sym (same_code c 38 g)) (ampersand more (is_comment (from_blank cs)) refl)
     by_ampersand more false e f g = others more e f g
 
     by_semicolon : ScansRest line cs → (b : Bool) → c == 33 ≡ false → c == 59 ≡ b → ScanIs line left cs c
@@ -343,7 +387,8 @@ scan_is (Some d) line left (c ∷ cs) h = by_end (scan_is (kept d c) line left c
             ap (λ o. is_empty (from_blank (code_of o cs))) (ap (λ t. cond t None (Some d)) other) ∙ text_code d cs h
         go false e = refl
 
-    by_end : scan (kept d c) line left cs ≡ said_of (kept d c) line left code → (b : Bool) → ends_here c cs ≡ b → scan (Some d) line left (c ∷ cs) ≡ said_of (Some d) line left (c ∷ code)
+    by_end : scan (kept d c) line left cs ≡ said_of (kept d c) line left code → (b : Bool) → ends_here c cs ≡ b
+        → scan (Some d) line left (c ∷ cs) ≡ said_of (Some d) line left (c ∷ code)
     by_end more true e =
         stay (ends_here c cs) _ _ e
         ∙ sym (ap (λ t. said (Some d) line left (cond t [] (c ∷ body_of code)) (cond t true (continued_of code))) (same_end ∙ e))

@@ -1,5 +1,6 @@
 -- The lines that `bstr` gives are the lines of a text.
-use Rattle.std.proofs.Common.{◌≡◌, ℕ, suc, ◌-◌, Bool, true, false, ◌&&◌, ◌==◌, cond, nat_lt, slice_index, List, [], ◌∷◌, length, take, drop, map, refl, sym, ap, ◌∙◌, arith}
+use Rattle.std.proofs.Common.{◌≡◌, ℕ, suc, ◌-◌, Bool, true, false, ◌&&◌, ◌==◌, cond, nat_lt, slice_index, List, [], ◌∷◌, length}
+use Rattle.std.proofs.Common.{take, drop, map, refl, sym, ap, ◌∙◌, arith}
 use Rattle.std.proofs.lemmas.Bool.Decides.{nat_tests}
 use Rattle.bstr.specs.Text.{line_len, no_cr, without_terminator}
 use Rattle.bstr.specs.Text as bstr
@@ -7,14 +8,17 @@ use Rattle.bstr.proofs.lemmas.LineLemmas.{lines-nil, lines-step}
 use Rattle.f95_lexer.specs.Lines.{onto, begins_with_feed, text_lines}
 
 -- the first line of what doesn't begin with a line feed, one character in front
-longer : (c : ℕ) (cs : List ℕ) → take (suc (line_len cs)) (c ∷ cs) ∷ bstr.lines_of (drop (line_len cs) cs) ≡ onto c (bstr.lines_of cs)
+longer : (c : ℕ) (cs : List ℕ)
+    → take (suc (line_len cs)) (c ∷ cs) ∷ bstr.lines_of (drop (line_len cs) cs) ≡ onto c (bstr.lines_of cs)
 unfolding line_len
 longer c [] = ap (λ l. (c ∷ []) ∷ l) lines-nil ∙ ap (onto c) (sym lines-nil)
 longer c (d ∷ ds) = ap (onto c) (sym (lines-step (d ∷ ds) (omega arith)))
 
-by_feed : (c : ℕ) (cs : List ℕ) (b : Bool) → line_len (c ∷ cs) ≡ cond b 1 (suc (line_len cs)) → bstr.lines_of (c ∷ cs) ≡ cond b ((c ∷ []) ∷ bstr.lines_of cs) (onto c (bstr.lines_of cs))
+by_feed : (c : ℕ) (cs : List ℕ) (b : Bool) → line_len (c ∷ cs) ≡ cond b 1 (suc (line_len cs))
+    → bstr.lines_of (c ∷ cs) ≡ cond b ((c ∷ []) ∷ bstr.lines_of cs) (onto c (bstr.lines_of cs))
 by_feed c cs true e = lines-step (c ∷ cs) (omega arith) ∙ ap (λ k. take k (c ∷ cs) ∷ bstr.lines_of (drop k (c ∷ cs))) e
-by_feed c cs false e = lines-step (c ∷ cs) (omega arith) ∙ ap (λ k. take k (c ∷ cs) ∷ bstr.lines_of (drop k (c ∷ cs))) e ∙ longer c cs
+by_feed c cs false e =
+    lines-step (c ∷ cs) (omega arith) ∙ ap (λ k. take k (c ∷ cs) ∷ bstr.lines_of (drop k (c ∷ cs))) e ∙ longer c cs
 
 -- one more character in front, by the test for a line feed
 step : (c : ℕ) (cs : List ℕ) → bstr.lines_of (c ∷ cs) ≡ cond (c == 10) ((c ∷ []) ∷ bstr.lines_of cs) (onto c (bstr.lines_of cs))
@@ -70,7 +74,8 @@ trimmed-cons c d (e ∷ zs) other =
     ∙ no_cr-cons c d (shorter (e ∷ zs)) ∙ ap (λ s. c ∷ no_cr s) (sym (shorter-cons d e zs)))
     ∙ cond-cons (ends_in 10 (d ∷ e ∷ zs)) c (no_cr (shorter (d ∷ e ∷ zs))) (d ∷ e ∷ zs)
 
-trimmed-onto : (c d : ℕ) (ss : List (List ℕ)) → d == 10 ≡ false → map without_terminator (onto c (onto d ss)) ≡ onto c (map without_terminator (onto d ss))
+trimmed-onto : (c d : ℕ) (ss : List (List ℕ)) → d == 10 ≡ false
+    → map without_terminator (onto c (onto d ss)) ≡ onto c (map without_terminator (onto d ss))
 trimmed-onto c d [] other = ap (λ s. s ∷ []) (trimmed-cons c d [] other)
 trimmed-onto c d (s ∷ ss) other = ap (λ s. s ∷ map without_terminator ss) (trimmed-cons c d s other)
 
@@ -92,22 +97,27 @@ pick : (b : Bool) (c : ℕ) (rest : List (List ℕ)) → cond b [] (c ∷ []) �
 pick true c rest = refl
 pick false c rest = refl
 
-before : (c d : ℕ) (ds : List ℕ) (b : Bool) → d == 10 ≡ b → map without_terminator (onto c (bstr.lines_of (d ∷ ds))) ≡ cond (c == 13 && d == 10) (trimmed (d ∷ ds)) (onto c (trimmed (d ∷ ds)))
+before : (c d : ℕ) (ds : List ℕ) (b : Bool) → d == 10 ≡ b
+    → map without_terminator (onto c (bstr.lines_of (d ∷ ds)))
+    ≡ cond (c == 13 && d == 10) (trimmed (d ∷ ds)) (onto c (trimmed (d ∷ ds)))
 before c d ds true feed =
-    let lines : bstr.lines_of (d ∷ ds) ≡ (d ∷ []) ∷ bstr.lines_of ds = step d ds ∙ ap (λ t. cond t ((d ∷ []) ∷ bstr.lines_of ds) (onto d (bstr.lines_of ds))) feed in
+    let lines : bstr.lines_of (d ∷ ds) ≡ (d ∷ []) ∷ bstr.lines_of ds =
+    step d ds ∙ ap (λ t. cond t ((d ∷ []) ∷ bstr.lines_of ds) (onto d (bstr.lines_of ds))) feed in
     let rest = trimmed ds in
     let after : trimmed (d ∷ ds) ≡ [] ∷ rest = ap (map without_terminator) lines ∙ ap (λ s. s ∷ rest) (feed_alone d feed) in
     ap (λ l. map without_terminator (onto c l)) lines ∙ ap (λ s. s ∷ rest) (one_before c d feed) ∙ pick (c == 13) c rest
     ∙ ap (λ t. cond (c == 13 && t) ([] ∷ rest) (onto c ([] ∷ rest))) (sym feed)
     ∙ ap (λ l. cond (c == 13 && d == 10) l (onto c l)) (sym after)
 before c d ds false other =
-    let lines : bstr.lines_of (d ∷ ds) ≡ onto d (bstr.lines_of ds) = step d ds ∙ ap (λ t. cond t ((d ∷ []) ∷ bstr.lines_of ds) (onto d (bstr.lines_of ds))) other in
+    let lines : bstr.lines_of (d ∷ ds) ≡ onto d (bstr.lines_of ds) =
+    step d ds ∙ ap (λ t. cond t ((d ∷ []) ∷ bstr.lines_of ds) (onto d (bstr.lines_of ds))) other in
     ap (λ l. map without_terminator (onto c l)) lines ∙ trimmed-onto c d (bstr.lines_of ds) other
     ∙ ap (λ l. onto c (map without_terminator l)) (sym lines)
     ∙ sym (ap (λ t. cond t (trimmed (d ∷ ds)) (onto c (trimmed (d ∷ ds)))) (ap (λ t. c == 13 && t) other ∙ and-false (c == 13)))
 
 -- a character that is no line feed
-in_line : (c : ℕ) (cs : List ℕ) → c == 10 ≡ false → map without_terminator (onto c (bstr.lines_of cs)) ≡ cond (c == 13 && begins_with_feed cs) (trimmed cs) (onto c (trimmed cs))
+in_line : (c : ℕ) (cs : List ℕ) → c == 10 ≡ false
+    → map without_terminator (onto c (bstr.lines_of cs)) ≡ cond (c == 13 && begins_with_feed cs) (trimmed cs) (onto c (trimmed cs))
 in_line c [] other =
     ap (λ l. map without_terminator (onto c l)) lines-nil ∙ ap (λ t. cond t (no_cr []) (c ∷ []) ∷ []) other
     ∙ ap (λ l. onto c (map without_terminator l)) (sym lines-nil)
@@ -115,7 +125,8 @@ in_line c [] other =
 in_line c (d ∷ ds) other = before c d ds (d == 10) refl
 
 by_character : (c : ℕ) (cs : List ℕ) (b : Bool) → c == 10 ≡ b → trimmed cs ≡ text_lines cs
-    → trimmed (c ∷ cs) ≡ cond b ([] ∷ text_lines cs) (cond (c == 13 && begins_with_feed cs) (text_lines cs) (onto c (text_lines cs)))
+    → trimmed (c ∷ cs)
+    ≡ cond b ([] ∷ text_lines cs) (cond (c == 13 && begins_with_feed cs) (text_lines cs) (onto c (text_lines cs)))
 by_character c cs true feed rest =
     ap (map without_terminator) (step c cs ∙ ap (λ t. cond t ((c ∷ []) ∷ bstr.lines_of cs) (onto c (bstr.lines_of cs))) feed)
     ∙ ap (λ s. s ∷ trimmed cs) (feed_alone c feed) ∙ ap (λ l. [] ∷ l) rest

@@ -1,9 +1,11 @@
 -- Reading items one after the other, and reading them from the last back.
-use Rattle.std.proofs.Common.{◌≡◌, ℕ, suc, zero, List, [], ◌∷◌, ◌++◌, drop, map, length, length-drop, ◌≤◌, refl, sym, ap, ◌∙◌, append_assoc, append-nil, arith}
+use Rattle.std.proofs.Common.{◌≡◌, ℕ, suc, zero, List, [], ◌∷◌, ◌++◌, drop, map, length, length-drop, ◌≤◌, refl, sym, ap, ◌∙◌}
+use Rattle.std.proofs.Common.{append_assoc, append-nil, arith}
 use Rattle.f95_lexer.specs.declared.character.Character.{Character}
 use Rattle.f95_lexer.specs.declared.token.Token.{Token}
 use Rattle.f95_lexer.specs.declared.token.Statement.{Statement}
-use Rattle.f95_lexer.specs.Statements.{Item, Ends, Stands, Parts, Reading, reading, next, read_on, first_line, with_statement, whole, parts_of, statements_of, lexemes_behind, items_of, items_at, rules_of, token_breaks}
+use Rattle.f95_lexer.specs.Statements.{Item, Ends, Stands, Parts, Reading, reading, next, read_on, first_line, with_statement}
+use Rattle.f95_lexer.specs.Statements.{whole, parts_of, statements_of, lexemes_behind, items_of, items_at, rules_of, token_breaks}
 use Rattle.f95_lexer.specs.declared.character.Break.{Break}
 use Rattle.f95_lexer.specs.declared.lexeme.Found.{Found}
 use Rattle.f95_lexer.specs.Splicing.{broken_at}
@@ -27,23 +29,28 @@ with-append : (line : ℕ) (ts : List Token) (xs : List Statement) → with_stat
 with-append line [] xs = refl
 with-append line (t ∷ ts) xs = refl
 
-before_end : (line : ℕ) (ts : List Token) (behind : List Statement) → whole (before line ts (record { line = 0; tokens = []; behind = behind })) ≡ with_statement line ts behind
+before_end : (line : ℕ) (ts : List Token) (behind : List Statement)
+    → whole (before line ts (record { line = 0; tokens = []; behind = behind })) ≡ with_statement line ts behind
 before_end line [] behind = refl
 before_end line (t ∷ ts) behind = ap (λ l. with_statement line l behind) (append-nil (t ∷ ts))
 
 before_token : (old line : ℕ) (ts : List Token) (t : Token) (rest : Parts) →
-    before (first_line old ts line) (ts ++ t ∷ []) rest ≡ before old ts (record { line = line; tokens = t ∷ rest.tokens; behind = rest.behind })
+    before (first_line old ts line) (ts ++ t ∷ []) rest
+    ≡ before old ts (record { line = line; tokens = t ∷ rest.tokens; behind = rest.behind })
 before_token old line [] t rest = refl
-before_token old line (u ∷ us) t rest = ap (λ l. (record { line = old; tokens = u ∷ l; behind = rest.behind })) (append_assoc us (t ∷ []) rest.tokens)
+before_token old line (u ∷ us) t rest =
+    ap (λ l. (record { line = old; tokens = u ∷ l; behind = rest.behind })) (append_assoc us (t ∷ []) rest.tokens)
 
 abbrev closed : Reading → List Statement
 closed r = r.list ++ with_statement r.line r.tokens []
 
-pub read_whole : (r : Reading) (items : List Item) → closed (read_on r items) ≡ r.list ++ whole (before r.line r.tokens (parts_of items))
+pub read_whole : (r : Reading) (items : List Item)
+    → closed (read_on r items) ≡ r.list ++ whole (before r.line r.tokens (parts_of items))
 read_whole r [] = ap (λ l. r.list ++ l) (sym (before_end r.line r.tokens []))
 read_whole r (Ends ∷ items) =
     read_whole (next r Ends) items ∙ append_assoc r.list (with_statement r.line r.tokens []) (whole (parts_of items))
-    ∙ ap (λ l. r.list ++ l) (with-append r.line r.tokens (whole (parts_of items)) ∙ sym (before_end r.line r.tokens (whole (parts_of items))))
+    ∙ ap (λ l. r.list ++ l) (with-append r.line r.tokens (whole (parts_of items))
+    ∙ sym (before_end r.line r.tokens (whole (parts_of items))))
 read_whole r (Stands line t ∷ items) =
     read_whole (next r (Stands line t)) items ∙ ap (λ p. r.list ++ whole p) (before_token r.line line r.tokens t (parts_of items))
 
@@ -51,16 +58,19 @@ pub read_all : (items : List Item) → closed (read_on (reading [] 0 []) items) 
 read_all items = read_whole (reading [] 0 []) items
 
 -- one lexeme
-pub one_read : (r q : Reading) (c : Character) (more rest : List Character) (f : Found) → f ≡ found_at c.byte (bytes_of more) → q ≡ read_on r (items_at c.line f.lexeme) → rest ≡ drop f.further more
+pub one_read : (r q : Reading) (c : Character) (more rest : List Character) (f : Found) → f ≡ found_at c.byte (bytes_of more)
+    → q ≡ read_on r (items_at c.line f.lexeme) → rest ≡ drop f.further more
     → read_on q (items_of (lexemes_behind 0 rest)) ≡ read_on r (items_of (lexemes_behind 0 (c ∷ more)))
 one_read r q c more rest f is read left =
     let behind = items_of (lexemes_behind f.further more) in
-    ap (λ s. read_on s (items_of (lexemes_behind 0 rest))) read ∙ ap (λ l. read_on (read_on r (items_at c.line f.lexeme)) (items_of (lexemes_behind 0 l))) left
+    ap (λ s. read_on s (items_of (lexemes_behind 0 rest))) read
+    ∙ ap (λ l. read_on (read_on r (items_at c.line f.lexeme)) (items_of (lexemes_behind 0 l))) left
     ∙ ap (λ l. read_on (read_on r (items_at c.line f.lexeme)) (items_of l)) (sym (skipped f.further more))
     ∙ sym (read_on-append r (items_at c.line f.lexeme) behind)
     ∙ ap (λ g. read_on r (items_at c.line g.lexeme ++ items_of (lexemes_behind g.further more))) is
 
-pub one_broken : (old new : List Break) (c : Character) (more rest : List Character) (f : Found) → f ≡ found_at c.byte (bytes_of more) → new ≡ old ++ map (broken_at c.line) (rules_of f.lexeme) → rest ≡ drop f.further more
+pub one_broken : (old new : List Break) (c : Character) (more rest : List Character) (f : Found)
+    → f ≡ found_at c.byte (bytes_of more) → new ≡ old ++ map (broken_at c.line) (rules_of f.lexeme) → rest ≡ drop f.further more
     → new ++ token_breaks (lexemes_behind 0 rest) ≡ old ++ token_breaks (lexemes_behind 0 (c ∷ more))
 one_broken old new c more rest f is broken left =
     let mine = map (broken_at c.line) (rules_of f.lexeme) in

@@ -1,16 +1,19 @@
 -- Which rules the lines break, and that lines are counted from 1.
-use Rattle.std.proofs.Common.{◌≡◌, ℕ, ◌+◌, ◌-◌, ◌<◌, ◌≤◌, ◌⊎◌, Bool, true, false, ◌&&◌, ◌==◌, nat_lt, cond, List, [], ◌∷◌, ◌++◌, length, Option, Some, None, refl, sym, ap, subst, inl, inr, ⊎_elim, arith}
+use Rattle.std.proofs.Common.{◌≡◌, ℕ, ◌+◌, ◌-◌, ◌<◌, ◌≤◌, ◌⊎◌, Bool, true, false, ◌&&◌, ◌==◌, nat_lt, cond, List, [], ◌∷◌, ◌++◌}
+use Rattle.std.proofs.Common.{length, Option, Some, None, refl, sym, ap, subst, inl, inr, ⊎_elim, arith}
 use Rattle.std.proofs.lemmas.Bool.Decides.{nat_tests}
+use Rattle.a95_base.specs.Lists.{Member, Every}
+use Rattle.a95_base.proofs.Lists.{Every-append, Every-weaker, each_has, Member-append_left, Member-append_right}
 use Rattle.f95_lexer.specs.Continuation.{opened, kept}
 use Rattle.f95_lexer.specs.Characters.{from_blank, is_comment, is_empty}
 use Rattle.f95_lexer.specs.declared.character.Character.{Character}
 use Rattle.f95_lexer.specs.declared.character.Break.{Break}
 use Rattle.f95_lexer.specs.declared.splice.Mode.{Mode}
 use Rattle.f95_lexer.specs.declared.splice.Mode.TheVariants.{Fresh, Goes, Inside}
-use Rattle.f95_lexer.specs.Splicing.{Spliced, ends, put, breaks_rule, all_broken, fortieth, broken_at, scan, begun, line_read, too_long, splice, spliced, unfinished, line_breaks}
-use Rattle.f95_lexer.specs.Rules.{Member, Numbered, numbered, numbered_from}
+use Rattle.f95_lexer.specs.Splicing.{Spliced, ends, put, breaks_rule, all_broken, fortieth, broken_at, scan, begun, line_read}
+use Rattle.f95_lexer.specs.Splicing.{too_long, splice, spliced, unfinished, line_breaks}
+use Rattle.f95_lexer.specs.Rules.{Numbered, numbered, numbered_from}
 use Rattle.f95_lexer.specs.Lines.{text_lines}
-use Rattle.f95_lexer.proofs.Members.{Each, each_append, each_weaker, each_has, has_left, has_right}
 
 -- a break by the rules of continuations
 pub record IsContinuationBreak (b : Break) : Type 0 where
@@ -27,8 +30,8 @@ pub record IsCounted (c : Character) : Type 0 where
 
 -- what is spliced from lines that are counted from 1
 pub record IsSound (s : Spliced) : Type 0 where
-  pub text : Each IsCounted s.text
-  pub breaks : Each IsContinuationBreak s.breaks
+  pub text : Every IsCounted s.text
+  pub breaks : Every IsContinuationBreak s.breaks
   pub mode : 1 ≤ mode_line s.mode
 
 at_cond : (b : Bool) (x y : Spliced) → IsSound x → IsSound y → IsSound (cond b x y)
@@ -74,13 +77,19 @@ scan_sound (Some d) line left (c ∷ cs) h =
 
 begun_sound : (m : Mode) (line c : ℕ) (cs : List ℕ) → 1 ≤ line → 1 ≤ mode_line m → IsSound (begun m line c cs)
 begun_sound Fresh line c cs h k =
-    at_cond (c == 38) _ _ (breaks_sound line 6 _ (six line h) (at_cond (is_comment (from_blank cs)) _ _ (ends_sound (Goes line 40) h) (scan_sound None line 40 cs h)))
+    at_cond (c == 38) _ _
+    (breaks_sound line 6 _ (six line h)
+    (at_cond (is_comment (from_blank cs)) _ _ (ends_sound (Goes line 40) h) (scan_sound None line 40 cs h)))
     (scan_sound None line 40 (c ∷ cs) h)
 begun_sound (Goes from left) line c cs h k = counted_sound line left _ h (
-    at_cond (c == 38) _ _ (at_cond (is_comment (from_blank cs)) _ _ (breaks_sound line 6 _ (six line h) (ends_sound (Goes line (left - 1)) h)) (scan_sound None line (left - 1) cs h))
+    at_cond (c == 38) _ _
+    (at_cond (is_comment (from_blank cs)) _ _ (breaks_sound line 6 _ (six line h) (ends_sound (Goes line (left - 1)) h))
+    (scan_sound None line (left - 1) cs h))
     (put_sound 32 line _ h (scan_sound None line (left - 1) (c ∷ cs) h)))
 begun_sound (Inside d from left) line c cs h k = counted_sound line left _ h (
-    at_cond (c == 38) _ _ (at_cond (is_empty (from_blank cs)) _ _ (breaks_sound line 6 _ (six line h) (ends_sound (Inside d line (left - 1)) h)) (scan_sound (Some d) line (left - 1) cs h))
+    at_cond (c == 38) _ _
+    (at_cond (is_empty (from_blank cs)) _ _ (breaks_sound line 6 _ (six line h) (ends_sound (Inside d line (left - 1)) h))
+    (scan_sound (Some d) line (left - 1) cs h))
     (breaks_sound from 6 _ (six from k) (put_sound 10 line _ h (scan_sound None line (left - 1) (c ∷ cs) h))))
 
 read_sound : (m : Mode) (line : ℕ) (cs : List ℕ) → 1 ≤ line → 1 ≤ mode_line m → IsSound (line_read m line cs)
@@ -92,7 +101,7 @@ pub record IsLongLine (lines : List Numbered) (b : Break) : Type 0 where
   pub counted : 1 ≤ b.line
   pub rule : b.rule ≡ 3
   pub text : List ℕ
-  pub has : Member (numbered b.line text) lines
+  pub has : Member lines (numbered b.line text)
   pub long : 132 < length text
 
 abbrev pub IsLineBreak : List Numbered → Break → Type 0
@@ -100,11 +109,12 @@ IsLineBreak lines b = IsContinuationBreak b ⊎ IsLongLine lines b
 
 -- of a whole text: the breaks are those of its lines
 pub record IsSplicedFrom (lines : List Numbered) (s : Spliced) : Type 0 where
-  pub text : Each IsCounted s.text
-  pub breaks : Each (IsLineBreak lines) s.breaks
+  pub text : Every IsCounted s.text
+  pub breaks : Every (IsLineBreak lines) s.breaks
   pub mode : 1 ≤ mode_line s.mode
 
-long_cases : (n : ℕ) (text : List ℕ) (lines : List Numbered) (b : Bool) → nat_lt 132 (length text) ≡ b → 1 ≤ n → Each (IsLineBreak (numbered n text ∷ lines)) (cond b (broken_at n 3 ∷ []) [])
+long_cases : (n : ℕ) (text : List ℕ) (lines : List Numbered) (b : Bool) → nat_lt 132 (length text) ≡ b → 1 ≤ n
+    → Every (IsLineBreak (numbered n text ∷ lines)) (cond b (broken_at n 3 ∷ []) [])
 long_cases n text lines true e h =
     let long : 132 < length text = grind (arith, nat_tests) in
     (inr (record { counted = h; rule = refl; text = text; has = inl refl; long = long }), tt)
@@ -116,7 +126,8 @@ later n text lines b h = ⊎_elim
     (λ (x : IsLongLine lines b). inr (record { counted = x.counted; rule = x.rule; text = x.text; has = inr x.has; long = x.long }))
     h
 
-splice_sound : (m : Mode) (n : ℕ) (texts : List (List ℕ)) → 1 ≤ n → 1 ≤ mode_line m → IsSplicedFrom (numbered_from n texts) (splice m n texts)
+splice_sound : (m : Mode) (n : ℕ) (texts : List (List ℕ)) → 1 ≤ n → 1 ≤ mode_line m
+    → IsSplicedFrom (numbered_from n texts) (splice m n texts)
 splice_sound m n [] h k = record { text = tt; breaks = tt; mode = k }
 splice_sound m n (text ∷ texts) h k =
     let first = read_sound m n (from_blank text) h k in
@@ -124,16 +135,20 @@ splice_sound m n (text ∷ texts) h k =
     let rest = splice_sound mode (n + 1) texts (omega arith) first.mode in
     let lines = numbered_from (n + 1) texts in
     record {
-      text = each_append IsCounted (line_read m n (from_blank text)).text (splice mode (n + 1) texts).text first.text rest.text;
-      breaks = each_append (IsLineBreak (numbered n text ∷ lines)) (too_long n text ++ (line_read m n (from_blank text)).breaks) (splice mode (n + 1) texts).breaks
-          (each_append (IsLineBreak (numbered n text ∷ lines)) (too_long n text) (line_read m n (from_blank text)).breaks
+      text = Every-append IsCounted (line_read m n (from_blank text)).text (splice mode (n + 1) texts).text first.text rest.text;
+      breaks =
+          Every-append (IsLineBreak (numbered n text ∷ lines)) (too_long n text ++ (line_read m n (from_blank text)).breaks)
+          (splice mode (n + 1) texts).breaks
+          (Every-append (IsLineBreak (numbered n text ∷ lines)) (too_long n text) (line_read m n (from_blank text)).breaks
           (long_cases n text lines (nat_lt 132 (length text)) refl h)
-          (each_weaker IsContinuationBreak (IsLineBreak (numbered n text ∷ lines)) (λ b. λ x. inl x) (line_read m n (from_blank text)).breaks first.breaks))
-          (each_weaker (IsLineBreak lines) (IsLineBreak (numbered n text ∷ lines)) (later n text lines) (splice mode (n + 1) texts).breaks rest.breaks);
+          (Every-weaker IsContinuationBreak (IsLineBreak (numbered n text ∷ lines)) (λ b. λ x. inl x)
+          (line_read m n (from_blank text)).breaks first.breaks))
+          (Every-weaker (IsLineBreak lines) (IsLineBreak (numbered n text ∷ lines)) (later n text lines)
+          (splice mode (n + 1) texts).breaks rest.breaks);
       mode = rest.mode;
     }
 
-unfinished_sound : (m : Mode) (lines : List Numbered) → 1 ≤ mode_line m → Each (IsLineBreak lines) (unfinished m)
+unfinished_sound : (m : Mode) (lines : List Numbered) → 1 ≤ mode_line m → Every (IsLineBreak lines) (unfinished m)
 unfinished_sound Fresh lines h = tt
 unfinished_sound (Goes line left) lines h = (inl (six line h), tt)
 unfinished_sound (Inside d line left) lines h = (inl (six line h), tt)
@@ -141,36 +156,42 @@ unfinished_sound (Inside d line left) lines h = (inl (six line h), tt)
 whole_sound : (bytes : List ℕ) → IsSplicedFrom (numbered_from 1 (text_lines bytes)) (spliced bytes)
 whole_sound bytes = splice_sound Fresh 1 (text_lines bytes) (omega arith) (omega arith)
 
-pub text_counted : (bytes : List ℕ) → Each IsCounted (spliced bytes).text
+pub text_counted : (bytes : List ℕ) → Every IsCounted (spliced bytes).text
 text_counted bytes = (whole_sound bytes).text
 
-pub line_break_is : (bytes : List ℕ) (b : Break) → Member b (line_breaks bytes) → IsLineBreak (numbered_from 1 (text_lines bytes)) b
+pub line_break_is : (bytes : List ℕ) (b : Break) → Member (line_breaks bytes) b → IsLineBreak (numbered_from 1 (text_lines bytes)) b
 line_break_is bytes b h =
     let lines = numbered_from 1 (text_lines bytes) in
-    each_has (IsLineBreak lines) b (line_breaks bytes)
-    (each_append (IsLineBreak lines) (spliced bytes).breaks (unfinished (spliced bytes).mode) (whole_sound bytes).breaks
+    each_has (IsLineBreak lines) (line_breaks bytes) b
+    (Every-append (IsLineBreak lines) (spliced bytes).breaks (unfinished (spliced bytes).mode) (whole_sound bytes).breaks
     (unfinished_sound (spliced bytes).mode lines (whole_sound bytes).mode)) h
 
-long_has : (n : ℕ) (text : List ℕ) → 132 < length text → Member (broken_at n 3) (too_long n text)
+long_has : (n : ℕ) (text : List ℕ) → 132 < length text → Member (too_long n text) (broken_at n 3)
 long_has n text long =
     let b : nat_lt 132 (length text) ≡ true = grind (arith, nat_tests) in
-    subst (λ t. Member (broken_at n 3) (cond t (broken_at n 3 ∷ []) [])) (sym b) (inl refl)
+    subst (λ t. Member (cond t (broken_at n 3 ∷ []) []) (broken_at n 3)) (sym b) (inl refl)
 
-long_found : (m : Mode) (n line : ℕ) (text : List ℕ) (texts : List (List ℕ)) → Member (numbered line text) (numbered_from n texts) → 132 < length text → Member (broken_at line 3) (splice m n texts).breaks
+long_found : (m : Mode) (n line : ℕ) (text : List ℕ) (texts : List (List ℕ)) → Member (numbered_from n texts) (numbered line text)
+    → 132 < length text → Member (splice m n texts).breaks (broken_at line 3)
 long_found m n line text [] h long = absurd h
 long_found m n line text (t ∷ ts) h long =
     let first = line_read m n (from_blank t) in
     let rest = splice first.mode (n + 1) ts in
     ⊎_elim
-    (λ (e : numbered line text ≡ numbered n t).
-    let same_line : line ≡ n = ap (λ (x : Numbered). x.line) e in let same_text : text ≡ t = ap (λ (x : Numbered). x.text) e in
-    has_left (broken_at line 3) (too_long n t ++ first.breaks) rest.breaks
-    (has_left (broken_at line 3) (too_long n t) first.breaks
-    (subst (λ l. Member (broken_at l 3) (too_long n t)) (sym same_line) (long_has n t (subst (λ x. 132 < length x) same_text long)))))
-    (λ (k : Member (numbered line text) (numbered_from (n + 1) ts)).
-    has_right (broken_at line 3) (too_long n t ++ first.breaks) rest.breaks (long_found first.mode (n + 1) line text ts k long))
+    (λ (e : numbered n t ≡ numbered line text).
+    let same_line : n ≡ line = ap (λ (x : Numbered). x.line) e in let same_text : t ≡ text = ap (λ (x : Numbered). x.text) e in
+    Member-append_left (too_long n t ++ first.breaks) rest.breaks (broken_at line 3)
+    (Member-append_left (too_long n t) first.breaks (broken_at line 3)
+    (subst (λ l. Member (too_long n t) (broken_at l 3)) same_line
+    (long_has n t (subst (λ x. 132 < length x) (sym same_text) long)))))
+    (λ (k : Member (numbered_from (n + 1) ts) (numbered line text)).
+    Member-append_right (too_long n t ++ first.breaks) rest.breaks (broken_at line 3)
+    (long_found first.mode (n + 1) line text ts k long))
     h
 
-pub long_line_broken : (bytes : List ℕ) (line : ℕ) (text : List ℕ) → Member (numbered line text) (numbered_from 1 (text_lines bytes)) → 132 < length text → Member (broken_at line 3) (line_breaks bytes)
+pub long_line_broken : (bytes : List ℕ) (line : ℕ) (text : List ℕ)
+    → Member (numbered_from 1 (text_lines bytes)) (numbered line text) → 132 < length text
+    → Member (line_breaks bytes) (broken_at line 3)
 long_line_broken bytes line text h long =
-    has_left (broken_at line 3) (spliced bytes).breaks (unfinished (spliced bytes).mode) (long_found Fresh 1 line text (text_lines bytes) h long)
+    Member-append_left (spliced bytes).breaks (unfinished (spliced bytes).mode) (broken_at line 3)
+    (long_found Fresh 1 line text (text_lines bytes) h long)

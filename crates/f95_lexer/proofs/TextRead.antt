@@ -1,22 +1,26 @@
 -- A text has its lines in one way, and they leave what splicing it leaves and break what splicing it breaks.
-use Rattle.std.proofs.Common.{◌≡◌, ◌⊎◌, ℕ, ◌+◌, Bool, true, false, ◌&&◌, ◌==◌, nat_lt, cond, List, [], ◌∷◌, ◌++◌, length, Option, Some, None, refl, sym, ap, ◌∙◌, subst, inl, inr, ⊎_elim, append-nil, arith}
+use Rattle.std.proofs.Common.{◌≡◌, ◌⊎◌, ℕ, ◌+◌, Bool, true, false, ◌&&◌, ◌==◌, nat_lt, cond, List, [], ◌∷◌, ◌++◌, length, Option}
+use Rattle.std.proofs.Common.{Some, None, refl, sym, ap, ◌∙◌, subst, inl, inr, ⊎_elim, append-nil, arith}
 use Rattle.std.proofs.lemmas.Bool.Decides.{nat_tests}
+use Rattle.a95_base.specs.Lists.{Member}
+use Rattle.a95_base.proofs.Lists.{Member-append_left, Member-append_right, Member-append_cases}
 use Rattle.f95_lexer.specs.declared.character.Break.{Break}
 use Rattle.f95_lexer.specs.declared.splice.Mode.{Mode}
 use Rattle.f95_lexer.specs.Characters.{from_blank, is_empty, is_comment}
-use Rattle.f95_lexer.specs.Continuation.{open_behind, HasBody, Onward, Ended, GoesOn, context, continuation_number, StatementLine, begins_with_ampersand, IsAlone, Begins, initial, joined, apart, cut_off, IsRead, more, has_semicolon, after, characters, AreRead, none, passed, stands, HasLines, all_characters, BreaksRule}
+use Rattle.f95_lexer.specs.Continuation.{open_behind, HasBody, Onward, Ended, GoesOn, context, continuation_number, StatementLine}
+use Rattle.f95_lexer.specs.Continuation.{begins_with_ampersand, IsAlone, Begins, initial, joined, apart, cut_off, IsRead, more}
+use Rattle.f95_lexer.specs.Continuation.{has_semicolon, after, characters, AreRead, none, passed, stands, HasLines, all_characters}
+use Rattle.f95_lexer.specs.Continuation.{BreaksRule}
 use Rattle.f95_lexer.specs.Continuation as continuation
 use Rattle.f95_lexer.specs.Limits.{P3, P6, longest_line}
 use Rattle.f95_lexer.specs.Lines.{text_lines}
-use Rattle.f95_lexer.specs.Rules.{Member}
 use Rattle.f95_lexer.specs.Splicing.{Spliced, broken_at, line_read, too_long, splice, spliced, unfinished, line_breaks}
 use Rattle.f95_lexer.specs.Splicing as splicing
 use Rattle.f95_lexer.proofs.Bodies.{code_of, body_of, continued_of, has_body, body_is, IsContext, open_context}
 use Rattle.f95_lexer.proofs.LinesRead.{mode_of, IsSpliced, read_spliced}
-use Rattle.f95_lexer.proofs.Members.{has_left, has_right, has_either}
 use Rattle.f95_lexer.proofs.Written.{stay}
 
--- Each text has its lines.
+-- Every text has its lines.
 
 -- how a line begins that isn't an `&` alone
 record Begun (before : Onward) (text : List ℕ) : Type 0 where
@@ -32,7 +36,8 @@ plain (GoesOn (Some d) from lines) text e = record { lead = 10 ∷ []; inside = 
 
 behind_ampersand : (before : Onward) (rest : List ℕ) → Begun before (38 ∷ rest)
 behind_ampersand Ended rest = record { lead = []; inside = None; rest = rest; is = continuation.continues_nothing rest }
-behind_ampersand (GoesOn inside from lines) rest = record { lead = []; inside = inside; rest = rest; is = joined inside from lines rest }
+behind_ampersand (GoesOn inside from lines) rest =
+    record { lead = []; inside = inside; rest = rest; is = joined inside from lines rest }
 
 same_code : (c n : ℕ) → c == n ≡ true → c ≡ n
 same_code c n e = grind (arith, nat_tests)
@@ -52,7 +57,8 @@ record Found (before : Onward) (number : ℕ) (text : List ℕ) : Type 0 where
   read : IsRead line
 
 abbrev line_of : Onward → ℕ → List ℕ → List ℕ → Option ℕ → List ℕ → Bool → StatementLine
-line_of before number text lead inside body continued = record { number = number; before = before; text = text; lead = lead; inside = inside; body = body; continued = continued }
+line_of before number text lead inside body continued =
+    record { number = number; before = before; text = text; lead = lead; inside = inside; body = body; continued = continued }
 
 abbrev is_only : Onward → List ℕ → Bool
 is_only before text = is_empty (body_of (code_of (context before) text)) && continued_of (code_of (context before) text)
@@ -76,8 +82,14 @@ found before number text = go (is_only before text) refl
     go true e =
         let is = both (body_of (code_of (context before) text)) (continued_of (code_of (context before) text)) e in
         let only : IsAlone before text =
-        subst (λ b. HasBody (context before) text b true) is.0 (subst (λ t. HasBody (context before) text (body_of (code_of (context before) text)) t) is.1 (has_body (context before) text)) in
-        record { line = line_of before number text [] (context before) [] true; here = (refl, (refl, refl)); read = continuation.alone only refl refl refl refl }
+        subst (λ b. HasBody (context before) text b true) is.0
+        (subst (λ t. HasBody (context before) text (body_of (code_of (context before) text)) t) is.1
+        (has_body (context before) text)) in
+        record {
+          line = line_of before number text [] (context before) [] true;
+          here = (refl, (refl, refl));
+          read = continuation.alone only refl refl refl refl;
+        }
     go false e =
         let b = how_begun before text in
         let code = code_of b.inside b.rest in
@@ -92,27 +104,36 @@ pub record Lines (before : Onward) (number : ℕ) (texts : List (List ℕ)) : Ty
   pub behind : Onward
   pub read : AreRead before number texts lines behind
 
-with_line : (before : Onward) (number : ℕ) (text : List ℕ) (texts : List (List ℕ)) → is_comment (from_blank text) ≡ false → (f : Found before number (from_blank text)) → Lines (after f.line) (number + 1) texts → Lines before number (text ∷ texts)
+with_line : (before : Onward) (number : ℕ) (text : List ℕ) (texts : List (List ℕ)) → is_comment (from_blank text) ≡ false
+    → (f : Found before number (from_blank text)) → Lines (after f.line) (number + 1) texts → Lines before number (text ∷ texts)
 with_line before number text texts e f r = record {
   lines = f.line ∷ r.lines;
   behind = r.behind;
   read =
       subst (λ x. AreRead x number (text ∷ texts) (f.line ∷ r.lines) r.behind) f.here.0
       (subst (λ n. AreRead f.line.before n (text ∷ texts) (f.line ∷ r.lines) r.behind) f.here.1.0
-      (stands f.line text texts r.lines r.behind e f.here.1.1 f.read (subst (λ n. AreRead (after f.line) (n + 1) texts r.lines r.behind) (sym f.here.1.0) r.read)));
+      (stands f.line text texts r.lines r.behind e f.here.1.1 f.read
+      (subst (λ n. AreRead (after f.line) (n + 1) texts r.lines r.behind) (sym f.here.1.0) r.read)));
 }
 
 pub has_lines : (before : Onward) (number : ℕ) (texts : List (List ℕ)) → Lines before number texts
 has_lines before number [] = record { lines = []; behind = before; read = none before number }
 has_lines before number (text ∷ texts) = go (is_comment (from_blank text)) refl (λ x. has_lines x (number + 1) texts)
   where
-    go : (b : Bool) → is_comment (from_blank text) ≡ b → ((x : Onward) → Lines x (number + 1) texts) → Lines before number (text ∷ texts)
-    go true e r = let rest = r before in record { lines = rest.lines; behind = rest.behind; read = passed before number text texts rest.lines rest.behind e rest.read }
+    go : (b : Bool) → is_comment (from_blank text) ≡ b → ((x : Onward) → Lines x (number + 1) texts)
+        → Lines before number (text ∷ texts)
+    go true e r = let rest =
+        r before in record {
+          lines = rest.lines;
+          behind = rest.behind;
+          read = passed before number text texts rest.lines rest.behind e rest.read;
+        }
     go false e r = let f = found before number (from_blank text) in with_line before number text texts e f (r (after f.line))
 
 -- What splicing makes of them.
 
-inside_context : (before : Onward) (text lead : List ℕ) (inside : Option ℕ) (rest : List ℕ) → Begins before text lead inside rest → IsContext (context before) → IsContext inside
+inside_context : (before : Onward) (text lead : List ℕ) (inside : Option ℕ) (rest : List ℕ) → Begins before text lead inside rest
+    → IsContext (context before) → IsContext inside
 inside_context before text lead inside rest (initial same e) h = tt
 inside_context before text lead inside rest (joined same from lines k) h = h
 inside_context before text lead inside rest (apart from lines same e) h = tt
@@ -126,27 +147,33 @@ read_context l (more rest other begun body) h = inside_context l.before l.text l
 after_context : (l : StatementLine) → IsContext l.inside → IsContext (context (after l))
 after_context l h = go l.continued
   where
-    go : (b : Bool) → IsContext (context (cond b (GoesOn (open_behind l.inside l.body) l.number (cond (has_semicolon l.inside l.body) 0 (continuation_number l.before))) Ended))
+    go : (b : Bool)
+        → IsContext
+        (context
+        (cond b
+        (GoesOn (open_behind l.inside l.body) l.number
+        (cond (has_semicolon l.inside l.body) 0 (continuation_number l.before))) Ended))
     go true = open_context l.inside l.body h
     go false = tt
 
 -- one of the lines breaks the rule
 pub record OneBreaks (lines : List StatementLine) (line rule : ℕ) : Type 0 where
   pub which : StatementLine
-  pub has : Member which lines
+  pub has : Member lines which
   pub breaks : BreaksRule which line rule
 
 pub record AreSpliced (lines : List StatementLine) (behind : Onward) (s : Spliced) : Type 0 where
   pub text : s.text ≡ all_characters lines
   pub mode : s.mode ≡ mode_of behind
-  pub sound : (b : Break) → Member b s.breaks → (b.rule ≡ P3) ⊎ OneBreaks lines b.line b.rule
-  pub complete : (l : StatementLine) (line rule : ℕ) → Member l lines → BreaksRule l line rule → Member (broken_at line rule) s.breaks
+  pub sound : (b : Break) → Member s.breaks b → (b.rule ≡ P3) ⊎ OneBreaks lines b.line b.rule
+  pub complete : (l : StatementLine) (line rule : ℕ) → Member lines l → BreaksRule l line rule
+      → Member s.breaks (broken_at line rule)
 
-long_rule : (n : ℕ) (text : List ℕ) (b : Break) → Member b (too_long n text) → b.rule ≡ P3
+long_rule : (n : ℕ) (text : List ℕ) (b : Break) → Member (too_long n text) b → b.rule ≡ P3
 long_rule n text b h = go (nat_lt longest_line (length text)) h
   where
-    go : (t : Bool) → Member b (cond t (broken_at n P3 ∷ []) []) → b.rule ≡ P3
-    go true k = ⊎_elim (λ (e : b ≡ broken_at n P3). ap (λ (x : Break). x.rule) e) (λ (x : ⊥). absurd x) k
+    go : (t : Bool) → Member (cond t (broken_at n P3 ∷ []) []) b → b.rule ≡ P3
+    go true k = ⊎_elim (λ (e : broken_at n P3 ≡ b). sym (ap (λ (x : Break). x.rule) e)) (λ (x : ⊥). absurd x) k
     go false k = absurd k
 
 passed_line : (m : Mode) (n : ℕ) (text : List ℕ) → is_comment text ≡ true → line_read m n text ≡ splicing.ends m
@@ -157,66 +184,97 @@ passed_line m n (c ∷ cs) e = stay (c == 33) _ _ e
 abbrev joined_to : ℕ → List ℕ → Spliced → List (List ℕ) → Spliced
 joined_to n text first texts = splicing.after (too_long n text) first (splice first.mode (n + 1) texts)
 
-later : (l : StatementLine) (lines : List StatementLine) (line rule : ℕ) → OneBreaks lines line rule → OneBreaks (l ∷ lines) line rule
+later : (l : StatementLine) (lines : List StatementLine) (line rule : ℕ) → OneBreaks lines line rule
+    → OneBreaks (l ∷ lines) line rule
 later l lines line rule o = record { which = o.which; has = inr o.has; breaks = o.breaks }
 
-passed_spliced : (m : Mode) (n : ℕ) (text : List ℕ) (texts : List (List ℕ)) (lines : List StatementLine) (behind : Onward) → AreSpliced lines behind (splice m (n + 1) texts) → AreSpliced lines behind (joined_to n text (splicing.ends m) texts)
+passed_spliced : (m : Mode) (n : ℕ) (text : List ℕ) (texts : List (List ℕ)) (lines : List StatementLine) (behind : Onward)
+    → AreSpliced lines behind (splice m (n + 1) texts) → AreSpliced lines behind (joined_to n text (splicing.ends m) texts)
 passed_spliced m n text texts lines behind r = record {
   text = r.text;
   mode = r.mode;
   sound = λ b. λ h. ⊎_elim
-      (λ (x : Member b (too_long n text ++ [])). inl (long_rule n text b (subst (λ l. Member b l) (append-nil (too_long n text)) x)))
-      (λ (x : Member b (splice m (n + 1) texts).breaks). r.sound b x)
-      (has_either b (too_long n text ++ []) (splice m (n + 1) texts).breaks h);
-  complete = λ l. λ line. λ rule. λ h. λ k. has_right (broken_at line rule) (too_long n text ++ []) _ (r.complete l line rule h k);
+      (λ (x : Member (too_long n text ++ []) b). inl
+      (long_rule n text b (subst (λ l. Member l b) (append-nil (too_long n text)) x)))
+      (λ (x : Member (splice m (n + 1) texts).breaks b). r.sound b x)
+      (Member-append_cases (too_long n text ++ []) (splice m (n + 1) texts).breaks b h);
+  complete =
+      λ l. λ line. λ rule. λ h. λ k. Member-append_right (too_long n text ++ []) _ (broken_at line rule)
+      (r.complete l line rule h k);
 }
 
-line_spliced : (l : StatementLine) (n : ℕ) (first : Spliced) (text : List ℕ) (texts : List (List ℕ)) (lines : List StatementLine) (behind : Onward) →
-    IsSpliced l first → AreSpliced lines behind (splice first.mode (n + 1) texts) → AreSpliced (l ∷ lines) behind (joined_to n text first texts)
+line_spliced : (l : StatementLine) (n : ℕ) (first : Spliced) (text : List ℕ) (texts : List (List ℕ)) (lines : List StatementLine)
+    (behind : Onward) →
+    IsSpliced l first → AreSpliced lines behind (splice first.mode (n + 1) texts)
+    → AreSpliced (l ∷ lines) behind (joined_to n text first texts)
 line_spliced l n first text texts lines behind f r = record {
   text = ap (λ t. t ++ (splice first.mode (n + 1) texts).text) f.text ∙ ap (λ t. characters l ++ t) r.text;
   mode = r.mode;
   sound = λ b. λ h. ⊎_elim
-      (λ (x : Member b (too_long n text ++ first.breaks)). ⊎_elim
-      (λ (y : Member b (too_long n text)). inl (long_rule n text b y))
-      (λ (y : Member b first.breaks). inr (record { which = l; has = inl refl; breaks = f.sound b y }))
-      (has_either b (too_long n text) first.breaks x))
-      (λ (x : Member b (splice first.mode (n + 1) texts).breaks). ⊎_elim
+      (λ (x : Member (too_long n text ++ first.breaks) b). ⊎_elim
+      (λ (y : Member (too_long n text) b). inl (long_rule n text b y))
+      (λ (y : Member first.breaks b). inr (record { which = l; has = inl refl; breaks = f.sound b y }))
+      (Member-append_cases (too_long n text) first.breaks b x))
+      (λ (x : Member (splice first.mode (n + 1) texts).breaks b). ⊎_elim
       (λ (y : b.rule ≡ P3). inl y)
       (λ (y : OneBreaks lines b.line b.rule). inr (later l lines b.line b.rule y))
       (r.sound b x))
-      (has_either b (too_long n text ++ first.breaks) (splice first.mode (n + 1) texts).breaks h);
+      (Member-append_cases (too_long n text ++ first.breaks) (splice first.mode (n + 1) texts).breaks b h);
   complete = λ k. λ line. λ rule. λ h. λ breaks. ⊎_elim
-      (λ (e : k ≡ l). has_left (broken_at line rule) (too_long n text ++ first.breaks) _ (has_right (broken_at line rule) (too_long n text) first.breaks (f.complete line rule (subst (λ x. BreaksRule x line rule) e breaks))))
-      (λ (x : Member k lines). has_right (broken_at line rule) (too_long n text ++ first.breaks) _ (r.complete k line rule x breaks))
+      (λ (e : l
+      ≡ k). Member-append_left (too_long n text ++ first.breaks) _ (broken_at line rule)
+      (Member-append_right (too_long n text) first.breaks (broken_at line rule)
+      (f.complete line rule (subst (λ x. BreaksRule x line rule) (sym e) breaks))))
+      (λ (x : Member lines k). Member-append_right (too_long n text ++ first.breaks) _ (broken_at line rule)
+      (r.complete k line rule x breaks))
       h;
 }
 
-are_spliced : (before : Onward) (n : ℕ) (texts : List (List ℕ)) (lines : List StatementLine) (behind : Onward) → AreRead before n texts lines behind → IsContext (context before) → AreSpliced lines behind (splice (mode_of before) n texts)
-are_spliced before n texts lines behind (none same k) h = record { text = refl; mode = refl; sound = λ b. λ x. absurd x; complete = λ l. λ line. λ rule. λ x. λ y. absurd x }
+are_spliced : (before : Onward) (n : ℕ) (texts : List (List ℕ)) (lines : List StatementLine) (behind : Onward)
+    → AreRead before n texts lines behind → IsContext (context before) → AreSpliced lines behind (splice (mode_of before) n texts)
+are_spliced before n texts lines behind (none same k) h =
+    record { text = refl; mode = refl; sound = λ b. λ x. absurd x; complete = λ l. λ line. λ rule. λ x. λ y. absurd x }
 are_spliced before n texts lines behind (passed same k text rest those end e r) h =
-    subst (AreSpliced those end) (sym (ap (λ first. joined_to k text first rest) (passed_line (mode_of same) k (from_blank text) e)))
+    subst (AreSpliced those end)
+    (sym (ap (λ first. joined_to k text first rest) (passed_line (mode_of same) k (from_blank text) e)))
     (passed_spliced (mode_of same) k text rest those end (are_spliced same (k + 1) rest those end r h))
 are_spliced before n texts lines behind (stands l text rest those end e is read r) h =
     let first = line_read (mode_of l.before) l.number (from_blank text) in
-    let one : IsSpliced l first = subst (λ t. IsSpliced l (line_read (mode_of l.before) l.number t)) is (read_spliced l (from_blank text) is e h read) in
+    let one : IsSpliced l first =
+    subst (λ t. IsSpliced l (line_read (mode_of l.before) l.number t)) is (read_spliced l (from_blank text) is e h read) in
     let more_of = are_spliced (after l) (l.number + 1) rest those end r (after_context l (read_context l read h)) in
-    line_spliced l l.number first text rest those end one (subst (λ m. AreSpliced those end (splice m (l.number + 1) rest)) (sym one.mode) more_of)
+    line_spliced l l.number first text rest those end one
+    (subst (λ m. AreSpliced those end (splice m (l.number + 1) rest)) (sym one.mode) more_of)
 
 -- Of a whole text.
 
-pub lines_spliced : (bytes : List ℕ) (lines : List StatementLine) (behind : Onward) → HasLines bytes lines behind → AreSpliced lines behind (spliced bytes)
+pub lines_spliced : (bytes : List ℕ) (lines : List StatementLine) (behind : Onward) → HasLines bytes lines behind
+    → AreSpliced lines behind (spliced bytes)
 lines_spliced bytes lines behind r = are_spliced Ended 1 (text_lines bytes) lines behind r tt
 
 -- rule 6, where a statement goes on behind the last line
-unfinished_sound : (behind : Onward) (b : Break) → Member b (unfinished (mode_of behind)) → (inside : Option ℕ) × (lines : ℕ) × (behind ≡ GoesOn inside b.line lines) × (b.rule ≡ P6)
+unfinished_sound : (behind : Onward) (b : Break) → Member (unfinished (mode_of behind)) b → (inside : Option ℕ) × (lines : ℕ)
+    × (behind ≡ GoesOn inside b.line lines) × (b.rule ≡ P6)
 unfinished_sound Ended b h = absurd h
 unfinished_sound (GoesOn None from lines) b h = ⊎_elim
-    (λ (e : b ≡ broken_at from P6). (None, lines, ap (λ (x : Break). GoesOn None x.line lines) (sym e), ap (λ (x : Break). x.rule) e)) (λ (x : ⊥). absurd x) h
+    (λ (e : broken_at from P6
+    ≡ b). (
+      None,
+      lines,
+      ap (λ (x : Break). GoesOn None x.line lines) e,
+      sym (ap (λ (x : Break). x.rule) e),
+    )) (λ (x : ⊥). absurd x) h
 unfinished_sound (GoesOn (Some d) from lines) b h = ⊎_elim
-    (λ (e : b ≡ broken_at from P6). (Some d, lines, ap (λ (x : Break). GoesOn (Some d) x.line lines) (sym e), ap (λ (x : Break). x.rule) e)) (λ (x : ⊥). absurd x) h
+    (λ (e : broken_at from P6
+    ≡ b). (
+      Some d,
+      lines,
+      ap (λ (x : Break). GoesOn (Some d) x.line lines) e,
+      sym (ap (λ (x : Break). x.rule) e),
+    )) (λ (x : ⊥). absurd x) h
 
-unfinished_complete : (inside : Option ℕ) (from lines : ℕ) → Member (broken_at from P6) (unfinished (mode_of (GoesOn inside from lines)))
+unfinished_complete : (inside : Option ℕ) (from lines : ℕ)
+    → Member (unfinished (mode_of (GoesOn inside from lines))) (broken_at from P6)
 unfinished_complete None from lines = inl refl
 unfinished_complete (Some d) from lines = inl refl
 
@@ -225,19 +283,24 @@ pub data LineBreak (lines : List StatementLine) (behind : Onward) : ℕ → ℕ 
   of_line : (line rule : ℕ) → OneBreaks lines line rule → LineBreak lines behind line rule
   no_further : (inside : Option ℕ) (from count : ℕ) → behind ≡ GoesOn inside from count → LineBreak lines behind from P6
 
-pub break_sound : (bytes : List ℕ) (lines : List StatementLine) (behind : Onward) (b : Break) → HasLines bytes lines behind → Member b (line_breaks bytes) → (b.rule ≡ P3) ⊎ LineBreak lines behind b.line b.rule
+pub break_sound : (bytes : List ℕ) (lines : List StatementLine) (behind : Onward) (b : Break) → HasLines bytes lines behind
+    → Member (line_breaks bytes) b → (b.rule ≡ P3) ⊎ LineBreak lines behind b.line b.rule
 break_sound bytes lines behind b r h =
     let s = lines_spliced bytes lines behind r in
     ⊎_elim
-    (λ (x : Member b (spliced bytes).breaks). ⊎_elim (λ (y : b.rule ≡ P3). inl y) (λ (y : OneBreaks lines b.line b.rule). inr (of_line b.line b.rule y)) (s.sound b x))
-    (λ (x : Member b (unfinished (spliced bytes).mode)).
-    let u = unfinished_sound behind b (subst (λ m. Member b (unfinished m)) s.mode x) in
+    (λ (x : Member (spliced bytes).breaks b). ⊎_elim (λ (y : b.rule
+    ≡ P3). inl y) (λ (y : OneBreaks lines b.line b.rule). inr (of_line b.line b.rule y)) (s.sound b x))
+    (λ (x : Member (unfinished (spliced bytes).mode) b).
+    let u = unfinished_sound behind b (subst (λ m. Member (unfinished m) b) s.mode x) in
     inr (subst (λ rule. LineBreak lines behind b.line rule) (sym u.3) (no_further u.0 b.line u.1 u.2)))
-    (has_either b (spliced bytes).breaks (unfinished (spliced bytes).mode) h)
+    (Member-append_cases (spliced bytes).breaks (unfinished (spliced bytes).mode) b h)
 
-pub break_complete : (bytes : List ℕ) (lines : List StatementLine) (behind : Onward) (line rule : ℕ) → HasLines bytes lines behind → LineBreak lines behind line rule → Member (broken_at line rule) (line_breaks bytes)
+pub break_complete : (bytes : List ℕ) (lines : List StatementLine) (behind : Onward) (line rule : ℕ) → HasLines bytes lines behind
+    → LineBreak lines behind line rule → Member (line_breaks bytes) (broken_at line rule)
 break_complete bytes lines behind line rule r (of_line n k o) =
-    has_left (broken_at n k) (spliced bytes).breaks (unfinished (spliced bytes).mode) ((lines_spliced bytes lines behind r).complete o.which n k o.has o.breaks)
+    Member-append_left (spliced bytes).breaks (unfinished (spliced bytes).mode) (broken_at n k)
+    ((lines_spliced bytes lines behind r).complete o.which n k o.has o.breaks)
 break_complete bytes lines behind line rule r (no_further inside from count e) =
-    has_right (broken_at from P6) (spliced bytes).breaks (unfinished (spliced bytes).mode)
-    (subst (λ m. Member (broken_at from P6) (unfinished m)) (sym ((lines_spliced bytes lines behind r).mode ∙ ap mode_of e)) (unfinished_complete inside from count))
+    Member-append_right (spliced bytes).breaks (unfinished (spliced bytes).mode) (broken_at from P6)
+    (subst (λ m. Member (unfinished m) (broken_at from P6)) (sym ((lines_spliced bytes lines behind r).mode
+    ∙ ap mode_of e)) (unfinished_complete inside from count))

@@ -1,5 +1,6 @@
 -- What is found without a broken rule is written there as a token, the longest that begins there.
-use Rattle.std.proofs.Common.{◌≡◌, ℕ, pos, suc, ◌+◌, ◌-◌, ◌*◌, ◌<◌, ◌≤◌, Bool, true, false, ◌&&◌, ◌==◌, not, nat_lt, cond, List, [], ◌∷◌, ◌++◌, length, map, take, drop, Option, Some, None, refl, sym, ap, ◌∙◌, subst, arith}
+use Rattle.std.proofs.Common.{◌≡◌, ℕ, pos, suc, ◌+◌, ◌-◌, ◌*◌, ◌<◌, ◌≤◌, Bool, true, false, ◌&&◌, ◌==◌, not, nat_lt, cond, List, []}
+use Rattle.std.proofs.Common.{◌∷◌, ◌++◌, length, map, take, drop, Option, Some, None, refl, sym, ap, ◌∙◌, subst, arith}
 use Rattle.std.proofs.lemmas.Bool.Decides.{nat_tests}
 use Rattle.std.proofs.lemmas.List.{length_push, length-map, length-append, take_at, drop_at, append_assoc}
 use Rattle.f95_lexer.specs.declared.lexeme.Lexeme.{Lexeme}
@@ -8,9 +9,12 @@ use Rattle.f95_lexer.specs.declared.lexeme.Found.{Found}
 use Rattle.f95_lexer.specs.declared.token.Mark.{Mark}
 use Rattle.f95_lexer.specs.declared.token.Mark.TheVariants as mark
 use Rattle.f95_lexer.specs.Characters.{is_blank, is_letter, is_digit, is_name, is_delimiter, lower, AllPass, begins}
-use Rattle.f95_lexer.specs.Lexeme.{front, behind_front, is_nil, begins_with, found, found_at, word_at, word_to_point, pointed, value_from, clings, taken, is_dotted, number_at, Literal, literal, text_at, symbol, symbol_at, symbol_of_one, symbol_of_two, longer_or}
+use Rattle.f95_lexer.specs.Lexeme.{front, behind_front, is_nil, begins_with, found, found_at, word_at, word_to_point, pointed}
+use Rattle.f95_lexer.specs.Lexeme.{value_from, clings, taken, is_dotted, number_at, Literal, literal, text_at, symbol, symbol_at}
+use Rattle.f95_lexer.specs.Lexeme.{symbol_of_one, symbol_of_two, longer_or}
 use Rattle.f95_lexer.specs.Statements.{rules_of}
-use Rattle.f95_lexer.specs.Spelling.{SpellsWord, SpellsNumber, SpellsText, SpellsDotted, SpellsMark, doubled, is_inside, symbol_text}
+use Rattle.f95_lexer.specs.Spelling.{SpellsWord, SpellsNumber, SpellsText, SpellsDotted, SpellsMark, doubled, is_inside}
+use Rattle.f95_lexer.specs.Spelling.{symbol_text}
 use Rattle.f95_lexer.proofs.Written.{skip, stay, taken_none, same_one}
 
 -- A lexeme as it is written, with what follows.
@@ -30,7 +34,8 @@ IsWritten lexeme.Stray c more rest = ⊥
 pub record IsGood (c : ℕ) (cs : List ℕ) (f : Found) : Type 0 where
   pub good : rules_of f.lexeme ≡ [] → IsWritten f.lexeme c (take f.further cs) (drop f.further cs)
 
-by_test : (c : ℕ) (cs : List ℕ) (b : Bool) (x y : Found) → (b ≡ true → IsGood c cs x) → (b ≡ false → IsGood c cs y) → IsGood c cs (cond b x y)
+by_test : (c : ℕ) (cs : List ℕ) (b : Bool) (x y : Found) → (b ≡ true → IsGood c cs x) → (b ≡ false → IsGood c cs y)
+    → IsGood c cs (cond b x y)
 by_test c cs true x y f g = f refl
 by_test c cs false x y f g = g refl
 
@@ -38,7 +43,8 @@ take_front : (p : ℕ → Bool) (cs : List ℕ) → take (length (front p cs)) c
 take_front p [] = refl
 take_front p (c ∷ cs) = go (p c) (take_front p cs)
   where
-    go : (b : Bool) → take (length (front p cs)) cs ≡ front p cs → take (length (cond b (c ∷ front p cs) [])) (c ∷ cs) ≡ cond b (c ∷ front p cs) []
+    go : (b : Bool) → take (length (front p cs)) cs ≡ front p cs
+        → take (length (cond b (c ∷ front p cs) [])) (c ∷ cs) ≡ cond b (c ∷ front p cs) []
     go true more = ap (λ l. c ∷ l) more
     go false more = refl
 
@@ -46,7 +52,8 @@ pub drop_front : (p : ℕ → Bool) (cs : List ℕ) → drop (length (front p cs
 drop_front p [] = refl
 drop_front p (c ∷ cs) = go (p c) (drop_front p cs)
   where
-    go : (b : Bool) → drop (length (front p cs)) cs ≡ behind_front p cs → drop (length (cond b (c ∷ front p cs) [])) (c ∷ cs) ≡ cond b (behind_front p cs) (c ∷ cs)
+    go : (b : Bool) → drop (length (front p cs)) cs ≡ behind_front p cs
+        → drop (length (cond b (c ∷ front p cs) [])) (c ∷ cs) ≡ cond b (behind_front p cs) (c ∷ cs)
     go true more = more
     go false more = refl
 
@@ -79,13 +86,26 @@ word_good c cs letter = record {
       let few : nat_lt 31 (length w) ≡ false = unbroken (nat_lt 31 (length w)) 7 rules in
       let short : length w ≤ 31 = grind (arith, nat_tests) in
       let spelled : SpellsWord w (c ∷ front is_name cs) (behind_front is_name cs) =
-      (record { letter = c; more = front is_name cs; is = refl; begun = letter; names = front_passes is_name cs; lowered = refl; short = short; longest = behind_stops is_name cs }) in
-      subst (λ l. SpellsWord w (c ∷ l) (drop n cs)) (sym (take_front is_name cs)) (subst (λ l. SpellsWord w (c ∷ front is_name cs) l) (sym (drop_front is_name cs)) spelled);
+      (record {
+        letter = c;
+        more = front is_name cs;
+        is = refl;
+        begun = letter;
+        names = front_passes is_name cs;
+        lowered = refl;
+        short = short;
+        longest = behind_stops is_name cs;
+      }) in
+      subst (λ l. SpellsWord w (c ∷ l) (drop n cs)) (sym (take_front is_name cs))
+      (subst (λ l. SpellsWord w (c ∷ front is_name cs) l) (sym (drop_front is_name cs)) spelled);
 }
 
 -- a number, by the test of its size
-number_cases : (c : ℕ) (cs : List ℕ) (b k : Bool) → is_digit c ≡ true → nat_lt (value_from (c - 48) (front is_digit cs)) 2147483648 ≡ b → clings (behind_front is_digit cs) ≡ k
-    → IsGood c cs (found (lexeme.Number (cond b (Some (pos (value_from (c - 48) (front is_digit cs)))) None) k) (length (front is_digit cs) + taken (behind_front is_digit cs)))
+number_cases : (c : ℕ) (cs : List ℕ) (b k : Bool) → is_digit c ≡ true
+    → nat_lt (value_from (c - 48) (front is_digit cs)) 2147483648 ≡ b → clings (behind_front is_digit cs) ≡ k
+    → IsGood c cs
+    (found (lexeme.Number (cond b (Some (pos (value_from (c - 48) (front is_digit cs)))) None) k)
+    (length (front is_digit cs) + taken (behind_front is_digit cs)))
 number_cases c cs false k digit size apart = record { good = λ rules. cc }
 number_cases c cs true true digit size apart = record { good = λ rules. cc }
 number_cases c cs true false digit size apart = record {
@@ -98,13 +118,26 @@ number_cases c cs true false digit size apart = record {
       let same : value_from 0 (c ∷ ds) ≡ value = ap (λ n. value_from n ds) start in
       let count : length ds + taken behind ≡ length ds = omega (arith, taken_none behind apart) in
       let spelled : SpellsNumber (pos value) (c ∷ ds) behind =
-      (record { digit = c; more = ds; is = refl; begun = digit; digits = front_passes is_digit cs; value = ap pos (sym same); small = subst (λ n. n < 2147483648) (sym same) small; longest = behind_stops is_digit cs; apart = apart }) in
+      (record {
+        digit = c;
+        more = ds;
+        is = refl;
+        begun = digit;
+        digits = front_passes is_digit cs;
+        value = ap pos (sym same);
+        small = subst (λ n. n < 2147483648) (sym same) small;
+        longest = behind_stops is_digit cs;
+        apart = apart;
+      }) in
       subst (λ n. SpellsNumber (pos value) (c ∷ take n cs) (drop n cs)) (sym count)
-      (subst (λ l. SpellsNumber (pos value) (c ∷ l) (drop (length ds) cs)) (sym (take_front is_digit cs)) (subst (λ l. SpellsNumber (pos value) (c ∷ ds) l) (sym (drop_front is_digit cs)) spelled));
+      (subst (λ l. SpellsNumber (pos value) (c ∷ l) (drop (length ds) cs)) (sym (take_front is_digit cs))
+      (subst (λ l. SpellsNumber (pos value) (c ∷ ds) l) (sym (drop_front is_digit cs)) spelled));
 }
 
 number_good : (c : ℕ) (cs : List ℕ) → is_digit c ≡ true → IsGood c cs (number_at c cs)
-number_good c cs digit = number_cases c cs (nat_lt (value_from (c - 48) (front is_digit cs)) 2147483648) (clings (behind_front is_digit cs)) digit refl refl
+number_good c cs digit =
+    number_cases c cs (nat_lt (value_from (c - 48) (front is_digit cs)) 2147483648)
+    (clings (behind_front is_digit cs)) digit refl refl
 
 -- Texts.
 
@@ -128,12 +161,14 @@ record IsText (d : ℕ) (behind : Bool) (cs : List ℕ) (t : Literal) : Type 0 w
 record IsClosed (d : ℕ) (behind : Bool) (cs : List ℕ) (t : Literal) : Type 0 where
   if_closed : t.closed ≡ true → IsText d behind cs t
 
-closed_test : (d : ℕ) (behind : Bool) (cs : List ℕ) (b : Bool) (x y : Literal) → (b ≡ true → IsClosed d behind cs x) → (b ≡ false → IsClosed d behind cs y) → IsClosed d behind cs (cond b x y)
+closed_test : (d : ℕ) (behind : Bool) (cs : List ℕ) (b : Bool) (x y : Literal) → (b ≡ true → IsClosed d behind cs x)
+    → (b ≡ false → IsClosed d behind cs y) → IsClosed d behind cs (cond b x y)
 closed_test d behind cs true x y f g = f refl
 closed_test d behind cs false x y f g = g refl
 
 text_parts : (d : ℕ) (behind : Bool) (cs : List ℕ) → d == 10 ≡ false → IsClosed d behind cs (literal d behind cs)
-text_parts d true [] feed = record { if_closed = λ closed. record { rest = []; is = refl; count = refl; inside = tt; longest = refl } }
+text_parts d true [] feed =
+    record { if_closed = λ closed. record { rest = []; is = refl; count = refl; inside = tt; longest = refl } }
 text_parts d false [] feed = record { if_closed = λ closed. cc }
 text_parts d false (c ∷ cs) feed =
     closed_test d false (c ∷ cs) (c == 10) _ _ (λ e. record { if_closed = λ closed. cc })
@@ -151,7 +186,10 @@ text_parts d false (c ∷ cs) feed =
           record {
             rest = t.rest;
             is = ap (λ l. c ∷ l) t.is ∙ sym (ap (λ l. l ++ (d ∷ t.rest)) written);
-            count = ap (λ n. n + 1) t.count ∙ (let n = length (doubled d bytes) in let step : n + 1 + 1 ≡ suc n + 1 = omega arith in step) ∙ ap (λ l. length l + 1) (sym written);
+            count =
+                ap (λ n. n + 1) t.count
+                ∙ (let n = length (doubled d bytes) in let step : n + 1 + 1 ≡ suc n + 1 = omega arith in step)
+                ∙ ap (λ l. length l + 1) (sym written);
             inside = (ap not other, t.inside);
             longest = t.longest;
           };
@@ -166,7 +204,10 @@ text_parts d true (c ∷ cs) feed =
           record {
             rest = t.rest;
             is = ap (λ x. d ∷ x ∷ cs) same ∙ ap (λ l. d ∷ d ∷ l) t.is ∙ sym (ap (λ l. l ++ (d ∷ t.rest)) written);
-            count = ap (λ n. n + 1 + 1) t.count ∙ (let n = length (doubled d bytes) in let step : n + 1 + 1 + 1 ≡ suc (suc n) + 1 = omega arith in step) ∙ ap (λ l. length l + 1) (sym written);
+            count =
+                ap (λ n. n + 1 + 1) t.count
+                ∙ (let n = length (doubled d bytes) in let step : n + 1 + 1 + 1 ≡ suc (suc n) + 1 = omega arith in step)
+                ∙ ap (λ l. length l + 1) (sym written);
             inside = (ap not feed, t.inside);
             longest = t.longest;
           };
@@ -183,14 +224,17 @@ text_cases d cs true delimiter feed closed = record {
       let written = doubled d bytes ++ d ∷ [] in
       let apart : cs ≡ written ++ t.rest = t.is ∙ sym (append_assoc (doubled d bytes) (d ∷ []) t.rest) in
       let count : length written ≡ (literal d false cs).taken = length_push (doubled d bytes) d ∙ sym t.count in
-      let spelled : SpellsText bytes (d ∷ written) t.rest = (record { delimiter = d; begun = delimiter; is = refl; inside = t.inside; longest = t.longest }) in
+      let spelled : SpellsText bytes (d ∷ written) t.rest =
+      (record { delimiter = d; begun = delimiter; is = refl; inside = t.inside; longest = t.longest }) in
       subst (λ l. SpellsText bytes (d ∷ take (literal d false cs).taken l) (drop (literal d false cs).taken l)) (sym apart)
-      (subst (λ l. SpellsText bytes (d ∷ l) (drop (literal d false cs).taken (written ++ t.rest))) (sym (take_at written t.rest _ count))
+      (subst (λ l. SpellsText bytes (d ∷ l) (drop (literal d false cs).taken (written ++ t.rest)))
+      (sym (take_at written t.rest _ count))
       (subst (λ l. SpellsText bytes (d ∷ written) l) (sym (drop_at written t.rest _ count)) spelled));
 }
 
 text_good : (d : ℕ) (cs : List ℕ) → is_delimiter d ≡ true → IsGood d cs (text_at d cs)
-text_good d cs delimiter = let feed : d == 10 ≡ false = grind (arith, nat_tests) in text_cases d cs (literal d false cs).closed delimiter feed refl
+text_good d cs delimiter = let feed : d == 10 ≡ false =
+    grind (arith, nat_tests) in text_cases d cs (literal d false cs).closed delimiter feed refl
 
 -- Dotted words.
 
@@ -202,7 +246,8 @@ pub front_behind : (p : ℕ → Bool) (cs : List ℕ) → cs ≡ front p cs ++ b
 front_behind p [] = refl
 front_behind p (c ∷ cs) = go (p c) (front_behind p cs)
   where
-    go : (b : Bool) → cs ≡ front p cs ++ behind_front p cs → c ∷ cs ≡ cond b (c ∷ front p cs) [] ++ cond b (behind_front p cs) (c ∷ cs)
+    go : (b : Bool) → cs ≡ front p cs ++ behind_front p cs
+        → c ∷ cs ≡ cond b (c ∷ front p cs) [] ++ cond b (behind_front p cs) (c ∷ cs)
     go true more = ap (λ l. c ∷ l) more
     go false more = refl
 
@@ -223,10 +268,19 @@ dotted_cases cs true test = record {
       let w = map lower letters in
       let rest = drop 1 (behind_front is_letter cs) in
       let written = letters ++ 46 ∷ [] in
-      let point : behind_front is_letter cs ≡ 46 ∷ rest = begun_by 46 (behind_front is_letter cs) (second (not (is_nil letters)) (begins_with 46 (behind_front is_letter cs)) test) in
-      let apart : cs ≡ written ++ rest = front_behind is_letter cs ∙ ap (λ l. letters ++ l) point ∙ sym (append_assoc letters (46 ∷ []) rest) in
+      let point : behind_front is_letter cs ≡ 46 ∷ rest =
+      begun_by 46 (behind_front is_letter cs) (second (not (is_nil letters)) (begins_with 46 (behind_front is_letter cs)) test) in
+      let apart : cs ≡ written ++ rest =
+      front_behind is_letter cs ∙ ap (λ l. letters ++ l) point ∙ sym (append_assoc letters (46 ∷ []) rest) in
       let count : length written ≡ length w + 1 = omega (arith, length_push letters 46, length-map letters lower) in
-      let spelled : SpellsDotted w (46 ∷ written) rest = (record { letters = letters; is = refl; names = front_passes is_letter cs; lowered = refl; word = no_rule (is_dotted w) 10 rules }) in
+      let spelled : SpellsDotted w (46 ∷ written) rest =
+      (record {
+        letters = letters;
+        is = refl;
+        names = front_passes is_letter cs;
+        lowered = refl;
+        word = no_rule (is_dotted w) 10 rules;
+      }) in
       subst (λ l. SpellsDotted w (46 ∷ take (length w + 1) l) (drop (length w + 1) l)) (sym apart)
       (subst (λ l. SpellsDotted w (46 ∷ l) (drop (length w + 1) (written ++ rest))) (sym (take_at written rest _ count))
       (subst (λ l. SpellsDotted w (46 ∷ written) l) (sym (drop_at written rest _ count)) spelled));
@@ -237,12 +291,14 @@ point_good cs = dotted_cases cs (not (is_nil (front is_letter cs)) && begins_wit
 
 -- Symbols.
 
-row : (b : Bool) (a : Mark) (y : Option Mark) (m : Mark) (text : List ℕ) → cond b (Some a) y ≡ Some m → (b ≡ true → symbol_text a ≡ text) → (y ≡ Some m → symbol_text m ≡ text) → symbol_text m ≡ text
+row : (b : Bool) (a : Mark) (y : Option Mark) (m : Mark) (text : List ℕ) → cond b (Some a) y ≡ Some m
+    → (b ≡ true → symbol_text a ≡ text) → (y ≡ Some m → symbol_text m ≡ text) → symbol_text m ≡ text
 row true a y m text e f g = let same : a ≡ m = cc in subst (λ x. symbol_text x ≡ text) same (f refl)
 row false a y m text e f g = g e
 
 pair : (x y c d : ℕ) → c == x && d == y ≡ true → x ∷ y ∷ [] ≡ c ∷ d ∷ []
-pair x y c d e = let first : x ≡ c = grind (arith, nat_tests) in let other : y ≡ d = grind (arith, nat_tests) in ap (λ z. z ∷ y ∷ []) first ∙ ap (λ z. c ∷ z ∷ []) other
+pair x y c d e = let first : x ≡ c = grind (arith, nat_tests) in let other : y ≡ d =
+    grind (arith, nat_tests) in ap (λ z. z ∷ y ∷ []) first ∙ ap (λ z. c ∷ z ∷ []) other
 
 one : (x c : ℕ) → c == x ≡ true → x ∷ [] ≡ c ∷ []
 one x c e = let first : x ≡ c = grind (arith, nat_tests) in ap (λ z. z ∷ []) first
@@ -307,13 +363,15 @@ two_at_most m (small e) = omega (arith, e)
 two_at_most m (large x y e f) = omega (arith, ap length e)
 
 -- where no two characters are a symbol, no other symbol begins there that is longer
-one_at_most : (c d : ℕ) (ds more : List ℕ) (other : Mark) → symbol_of_two c d ≡ None → c ∷ d ∷ ds ≡ symbol_text other ++ more → Size other → length (symbol_text other) ≤ 1
+one_at_most : (c d : ℕ) (ds more : List ℕ) (other : Mark) → symbol_of_two c d ≡ None → c ∷ d ∷ ds ≡ symbol_text other ++ more
+    → Size other → length (symbol_text other) ≤ 1
 one_at_most c d ds more other none e (small f) = omega (arith, f)
 one_at_most c d ds more other none e (large x y text two) =
     let parts : c ∷ d ∷ ds ≡ x ∷ y ∷ more = e ∙ ap (λ l. l ++ more) text in
     let first : x ≡ c = cc in
     let second_one : y ≡ d = cc in
-    let found_two : symbol_of_two c d ≡ Some other = subst (λ z. symbol_of_two z d ≡ Some other) first (subst (λ z. symbol_of_two x z ≡ Some other) second_one two) in
+    let found_two : symbol_of_two c d ≡ Some other =
+    subst (λ z. symbol_of_two z d ≡ Some other) first (subst (λ z. symbol_of_two x z ≡ Some other) second_one two) in
     let both : None ≡ Some other = sym none ∙ found_two in
     cc
 
@@ -322,15 +380,29 @@ at_end_length c more other e = omega (arith, ap length e, length-append (symbol_
 
 symbol_end : (c : ℕ) (o : Option Mark) → symbol_of_one c ≡ o → IsGood c [] (symbol 0 o)
 symbol_end c None e = record { good = λ rules. cc }
-symbol_end c (Some m) e = record { good = λ rules. record { is = sym (one_back c m e); longest = λ other. λ more. λ f. at_end_length c more other f } }
+symbol_end c (Some m) e =
+    record { good = λ rules. record { is = sym (one_back c m e); longest = λ other. λ more. λ f. at_end_length c more other f } }
 
-symbol_short : (c d : ℕ) (ds : List ℕ) (o : Option Mark) → symbol_of_two c d ≡ None → symbol_of_one c ≡ o → IsGood c (d ∷ ds) (symbol 0 o)
+symbol_short : (c d : ℕ) (ds : List ℕ) (o : Option Mark) → symbol_of_two c d ≡ None → symbol_of_one c ≡ o
+    → IsGood c (d ∷ ds) (symbol 0 o)
 symbol_short c d ds None none e = record { good = λ rules. cc }
-symbol_short c d ds (Some m) none e = record { good = λ rules. record { is = sym (one_back c m e); longest = λ other. λ more. λ f. one_at_most c d ds more other none f (size_of other) } }
+symbol_short c d ds (Some m) none e =
+    record {
+      good = λ rules. record {
+        is = sym (one_back c m e);
+        longest = λ other. λ more. λ f. one_at_most c d ds more other none f (size_of other);
+      };
+    }
 
 symbol_long : (c d : ℕ) (ds : List ℕ) (o : Option Mark) → symbol_of_two c d ≡ o → IsGood c (d ∷ ds) (longer_or o (symbol_of_one c))
 symbol_long c d ds None e = symbol_short c d ds (symbol_of_one c) e refl
-symbol_long c d ds (Some m) e = record { good = λ rules. record { is = sym (two_back c d m e); longest = λ other. λ more. λ f. two_at_most other (size_of other) } }
+symbol_long c d ds (Some m) e =
+    record {
+      good = λ rules. record {
+        is = sym (two_back c d m e);
+        longest = λ other. λ more. λ f. two_at_most other (size_of other);
+      };
+    }
 
 symbol_good : (c : ℕ) (cs : List ℕ) → IsGood c cs (symbol_at c cs)
 symbol_good c [] = symbol_end c (symbol_of_one c) refl
@@ -343,5 +415,6 @@ found_good c cs =
     (λ e2. by_test c cs (is_letter c) _ _ (λ e. word_good c cs e)
     (λ e3. by_test c cs (is_digit c) _ _ (λ e. number_good c cs e)
     (λ e4. by_test c cs (is_delimiter c) _ _ (λ e. text_good c cs e)
-    (λ e5. by_test c cs (c == 46) _ _ (λ e. let is : 46 ≡ c = grind (arith, nat_tests) in subst (λ x. IsGood x cs (pointed (word_to_point cs))) is (point_good cs))
+    (λ e5. by_test c cs (c == 46) _ _ (λ e. let is : 46
+    ≡ c = grind (arith, nat_tests) in subst (λ x. IsGood x cs (pointed (word_to_point cs))) is (point_good cs))
     (λ e6. symbol_good c cs))))))

@@ -1,5 +1,6 @@
 -- Kinds of characters, and what of a list of them is of a kind.
 use Rattle.std.specs.Prelude.{◌≡◌, ℕ, ◌+◌, Bool, true, false, ◌&&◌, ◌||◌, ◌==◌, nat_le, List, [], ◌∷◌, if◌then◌else◌}
+use Rattle.a95_base.specs.Lists.{Every}
 
 -- a tab counts as a blank
 abbrev pub is_blank : ℕ → Bool
@@ -25,8 +26,7 @@ lower c = if nat_le 65 c && nat_le c 90 then c + 32 else c
 
 -- every character passes
 abbrev pub AllPass : (ℕ → Bool) → List ℕ → Type 0
-AllPass p [] = Unit {0}
-AllPass p (c ∷ cs) = (p c ≡ true) × AllPass p cs
+AllPass p cs = Every (λ c. p c ≡ true) cs
 
 -- these begin with a character that passes
 abbrev pub begins : (ℕ → Bool) → List ℕ → Bool

@@ -1,6 +1,7 @@
 -- How lines make statements: what of a line is comment, where a text is open, and where a statement goes on behind an `&`.
 -- Every text is read so in one way, and one that breaks a rule too: what is then read of it is said with the rule.
-use Rattle.std.specs.Prelude.{◌≡◌, ℕ, ◌+◌, Bool, true, false, ◌||◌, ◌==◌, List, [], ◌∷◌, ◌++◌, map, Option, Some, None, if◌then◌else◌}
+use Rattle.std.specs.Prelude.{◌≡◌, ℕ, ◌+◌, Bool, true, false, ◌||◌, ◌==◌, List, [], ◌∷◌, ◌++◌, map, Option, Some, None}
+use Rattle.std.specs.Prelude.{if◌then◌else◌}
 use Rattle.std.specs.List.{flat_map}
 use Rattle.f95_lexer.specs.declared.character.Character.{Character}
 use Rattle.f95_lexer.specs.Characters.{is_blank, is_delimiter, AllPass, begins, from_blank, is_comment}
@@ -30,7 +31,8 @@ HasNoComment inside text = (front comment : List ℕ) → text ≡ front ++ 33 �
 -- the code of a text is what stands before its comment
 pub data IsCode (inside : Option ℕ) : (text code : List ℕ) → Type 0 where
   whole : (code : List ℕ) → HasNoComment inside code → IsCode inside code code
-  commented : (code comment : List ℕ) → HasNoComment inside code → open_behind inside code ≡ None → IsCode inside (code ++ 33 ∷ comment) code
+  commented : (code comment : List ℕ) → HasNoComment inside code → open_behind inside code ≡ None
+      → IsCode inside (code ++ 33 ∷ comment) code
 
 -- Continuation. An `&` that is the last character of the code, but for blanks, continues the statement.
 
@@ -84,15 +86,18 @@ IsAlone before text = HasBody (context before) text [] true
 pub data Begins : Onward → (text lead : List ℕ) (inside : Option ℕ) (rest : List ℕ) → Type 0 where
   initial : (text : List ℕ) → begins_with_ampersand text ≡ false → Begins Ended text [] None text
   joined : (inside : Option ℕ) (from lines : ℕ) (rest : List ℕ) → Begins (GoesOn inside from lines) (38 ∷ rest) [] inside rest
-  apart : (from lines : ℕ) (text : List ℕ) → begins_with_ampersand text ≡ false → Begins (GoesOn None from lines) text (32 ∷ []) None text
+  apart : (from lines : ℕ) (text : List ℕ) → begins_with_ampersand text ≡ false
+      → Begins (GoesOn None from lines) text (32 ∷ []) None text
   -- where rule 6 is broken: an `&` that continues nothing is left out, and a text that is continued without one ends its statement
   continues_nothing : (rest : List ℕ) → Begins Ended (38 ∷ rest) [] None rest
-  cut_off : (d from lines : ℕ) (text : List ℕ) → begins_with_ampersand text ≡ false → Begins (GoesOn (Some d) from lines) text (10 ∷ []) None text
+  cut_off : (d from lines : ℕ) (text : List ℕ) → begins_with_ampersand text ≡ false
+      → Begins (GoesOn (Some d) from lines) text (10 ∷ []) None text
 
 -- a line is read so: an `&` alone continues what goes on before it
 pub data IsRead (l : StatementLine) : Type 0 where
   alone : IsAlone l.before l.text → l.lead ≡ [] → l.inside ≡ context l.before → l.body ≡ [] → l.continued ≡ true → IsRead l
-  more : (rest : List ℕ) → (IsAlone l.before l.text → ⊥) → Begins l.before l.text l.lead l.inside rest → HasBody l.inside rest l.body l.continued → IsRead l
+  more : (rest : List ℕ) → (IsAlone l.before l.text → ⊥) → Begins l.before l.text l.lead l.inside rest
+      → HasBody l.inside rest l.body l.continued → IsRead l
 
 -- a `;` stands outside of texts
 abbrev pub has_semicolon : Option ℕ → List ℕ → Bool
@@ -103,7 +108,8 @@ has_semicolon (Some d) (c ∷ cs) = has_semicolon (kept d c) cs
 -- What goes on behind a line. The statement that a `;` begins has no continuation lines yet.
 abbrev pub after : StatementLine → Onward
 after l =
-    if l.continued then GoesOn (open_behind l.inside l.body) l.number (if has_semicolon l.inside l.body then 0 else continuation_number l.before)
+    if l.continued
+    then GoesOn (open_behind l.inside l.body) l.number (if has_semicolon l.inside l.body then 0 else continuation_number l.before)
     else Ended
 
 -- a body with a line feed for each `;` outside of texts, which ends a statement
@@ -148,4 +154,5 @@ pub data BreaksRule (l : StatementLine) : (line rule : ℕ) → Type 0 where
   -- rule 6: the line continues nothing and begins with `&`
   continues_nothing : l.before ≡ Ended → begins_with_ampersand l.text ≡ true → BreaksRule l l.number P6
   -- rule 6: the line continues a text and doesn't begin with `&`; it is the line of the `&` before
-  no_second : (d from lines : ℕ) → l.before ≡ GoesOn (Some d) from lines → begins_with_ampersand l.text ≡ false → BreaksRule l from P6
+  no_second : (d from lines : ℕ) → l.before ≡ GoesOn (Some d) from lines → begins_with_ampersand l.text ≡ false
+      → BreaksRule l from P6

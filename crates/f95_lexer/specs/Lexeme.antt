@@ -1,5 +1,6 @@
 -- What stands at a place of the spliced characters: the longest word, number, text, dotted word or symbol that begins there.
-use Rattle.std.specs.Prelude.{ℕ, ℤ, pos, ◌+◌, ◌-◌, ◌*◌, Bool, true, false, ◌&&◌, ◌||◌, not, ◌==◌, nat_lt, List, [], ◌∷◌, length, map, Option, Some, None, is_some, codes, if◌then◌else◌}
+use Rattle.std.specs.Prelude.{ℕ, ℤ, pos, ◌+◌, ◌-◌, ◌*◌, Bool, true, false, ◌&&◌, ◌||◌, not, ◌==◌, nat_lt, List, [], ◌∷◌, length}
+use Rattle.std.specs.Prelude.{map, Option, Some, None, is_some, codes, if◌then◌else◌}
 use Rattle.std.specs.Cmp.Lexicographic.{pointwise}
 use Rattle.std.specs.Prelude.{nat_eq}
 use Rattle.f95_lexer.specs.declared.character.Character.{Character}
@@ -53,7 +54,8 @@ is_dotted w =
 -- the letters up to a point, behind another point
 abbrev pub word_to_point : List ℕ → Option (List ℕ)
 word_to_point cs =
-    if not (is_nil (front is_letter cs)) && begins_with 46 (behind_front is_letter cs) then Some (map lower (front is_letter cs)) else None
+    if not (is_nil (front is_letter cs)) && begins_with 46 (behind_front is_letter cs) then Some
+    (map lower (front is_letter cs)) else None
 
 abbrev pub pointed : Option (List ℕ) → Found
 pointed None = found lexeme.Stray 0
@@ -87,7 +89,8 @@ taken (c ∷ cs) = if c == 95 || (c == 46 && not (is_some (word_to_point cs))) t
 abbrev pub number_at : ℕ → List ℕ → Found
 number_at c cs =
     let rest = behind_front is_digit cs in
-    found (lexeme.Number (integer (value_from (c - 48) (front is_digit cs))) (clings rest)) (length (front is_digit cs) + taken rest)
+    found (lexeme.Number (integer (value_from (c - 48) (front is_digit cs))) (clings rest))
+    (length (front is_digit cs) + taken rest)
 
 -- Texts.
 

@@ -10,7 +10,8 @@ abbrev pub begins_with_feed : List ℕ → Bool
 begins_with_feed [] = false
 begins_with_feed (c ∷ _) = c == 10
 
--- A line feed ends a line, and a carriage return before it belongs to neither. Behind the last line feed a line stands only where characters do.
+-- A line feed ends a line, and a carriage return before it belongs to neither. Behind the last line feed a line stands only where
+-- characters do.
 abbrev pub text_lines : List ℕ → List (List ℕ)
 text_lines [] = []
 text_lines (c ∷ cs) =

@@ -1,5 +1,7 @@
 -- The ten rules of refusal of this phase, each with the line on which it is broken.
-use Rattle.std.specs.Prelude.{◌≡◌, ℕ, ℤ, ◌+◌, ◌<◌, ◌≤◌, ◌⊎◌, ◌==◌, ◌&&◌, ◌||◌, nat_lt, nat_le, if◌then◌else◌, Some, Bool, true, false, List, [], ◌∷◌, ◌++◌, length, Option, None}
+use Rattle.std.specs.Prelude.{◌≡◌, ℕ, ℤ, ◌+◌, ◌<◌, ◌≤◌, ◌⊎◌, ◌==◌, ◌&&◌, ◌||◌, nat_lt, nat_le, if◌then◌else◌, Some, Bool, true}
+use Rattle.std.specs.Prelude.{false, List, [], ◌∷◌, ◌++◌, length, Option, None}
+use Rattle.a95_base.specs.Lists.{Member}
 use Rattle.a95_base.specs.declared.source.PhaseError.{PhaseError}
 use Rattle.a95_base.specs.declared.source.PhaseError.TheVariants.{Memory, Broken}
 use Rattle.f95_lexer.specs.declared.character.Break.{Break}
@@ -11,11 +13,6 @@ use Rattle.f95_lexer.specs.Limits.{P1, P2, P3, P6, P7, P8, P9, P10, longest_file
 use Rattle.f95_lexer.specs.Lines.{text_lines}
 use Rattle.f95_lexer.specs.Splicing.{broken_at, line_breaks}
 use Rattle.f95_lexer.specs.Statements.{lexemes_of, lexemes_behind, token_breaks}
-
--- x is one of them
-abbrev pub Member : {A : Type 0} → A → List A → Type 0
-Member x [] = ⊥
-Member x (y ∷ ys) = (x ≡ y) ⊎ Member x ys
 
 -- a line with its number
 pub record Numbered : Type 0 where
@@ -31,22 +28,24 @@ numbered_from n (text ∷ texts) = numbered n text ∷ numbered_from (n + 1) tex
 
 -- this is that line of the text
 abbrev pub IsLine : List ℕ → ℕ → List ℕ → Type 0
-IsLine bytes line text = Member (numbered line text) (numbered_from 1 (text_lines bytes))
+IsLine bytes line text = Member (numbered_from 1 (text_lines bytes)) (numbered line text)
 
 -- this begins on that line, in what the lines of statements leave
 abbrev pub Stands : List ℕ → ℕ → Lexeme → Type 0
 Stands bytes line l =
     (lines : List StatementLine) × (behind : Onward) × HasLines bytes lines behind
-    × Member (record { line = line; lexeme = l }) (lexemes_behind 0 (all_characters lines))
+    × Member (lexemes_behind 0 (all_characters lines)) (record { line = line; lexeme = l })
 
 -- one of the lines of statements breaks the rule, which names that line
 abbrev pub BreaksInLine : List ℕ → ℕ → ℕ → Type 0
 BreaksInLine bytes line rule =
-    (lines : List StatementLine) × (behind : Onward) × (l : StatementLine) × HasLines bytes lines behind × Member l lines × BreaksRule l line rule
+    (lines : List StatementLine) × (behind : Onward) × (l : StatementLine) × HasLines bytes lines behind × Member lines l
+    × BreaksRule l line rule
 
 -- the statement that the `&` of that line continues finds no further line
 abbrev pub FindsNoLine : List ℕ → ℕ → Type 0
-FindsNoLine bytes from = (lines : List StatementLine) × (inside : Option ℕ) × (count : ℕ) × HasLines bytes lines (GoesOn inside from count)
+FindsNoLine bytes from =
+    (lines : List StatementLine) × (inside : Option ℕ) × (count : ℕ) × HasLines bytes lines (GoesOn inside from count)
 
 -- the bytes break the rule on the line
 pub data IsBroken (bytes : List ℕ) : ℕ → ℕ → Type 0 where

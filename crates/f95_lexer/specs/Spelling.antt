@@ -7,12 +7,11 @@ use Rattle.f95_lexer.specs.declared.token.Token.{Token}
 use Rattle.f95_lexer.specs.declared.token.Token.TheVariants as token
 use Rattle.f95_lexer.specs.declared.token.Statement.{Statement}
 use Rattle.f95_lexer.specs.Characters.{AllPass, begins, is_blank, is_letter, is_digit, is_name, is_delimiter, lower}
-use Rattle.a95_base.specs.Lists.{Every}
+use Rattle.a95_base.specs.Lists.{Every, Member}
 use Rattle.f95_lexer.specs.Continuation.{Ended, StatementLine, HasLines, all_characters, BreaksRule}
 use Rattle.f95_lexer.specs.Limits.{longest_file, longest_line, longest_word}
 use Rattle.f95_lexer.specs.Lines.{feeds_of, text_lines}
 use Rattle.f95_lexer.specs.Lexeme.{bytes_of, value_from, clings, is_dotted}
-use Rattle.f95_lexer.specs.Rules.{Member}
 use Rattle.f95_lexer.specs.Statements.{Item, Ends, Stands, statements_of}
 
 -- Below, written is how a token stands, and rest is what directly follows it in the text.
@@ -89,7 +88,8 @@ symbol_text mark.Concat = codes "//"
 -- the symbol, where no longer one begins
 pub record SpellsMark (m : Mark) (written rest : List ℕ) : Type 0 where
   pub is : written ≡ symbol_text m
-  pub longest : (other : Mark) (more : List ℕ) → written ++ rest ≡ symbol_text other ++ more → length (symbol_text other) ≤ length written
+  pub longest : (other : Mark) (more : List ℕ) → written ++ rest ≡ symbol_text other ++ more
+      → length (symbol_text other) ≤ length written
 
 abbrev pub SpellsToken : Token → List ℕ → List ℕ → Type 0
 SpellsToken (token.Word w) written rest = SpellsWord w written rest
@@ -123,7 +123,7 @@ pub record Cuts (bytes : List ℕ) (statements : List Statement) (feeds : ℕ) :
   pub narrow : Every (λ text. length text ≤ longest_line) (text_lines bytes)
   pub lines : List StatementLine
   pub read : HasLines bytes lines Ended
-  pub whole : (l : StatementLine) (line rule : ℕ) → Member l lines → BreaksRule l line rule → ⊥
+  pub whole : (l : StatementLine) (line rule : ℕ) → Member lines l → BreaksRule l line rule → ⊥
   pub items : List Item
   pub spelled : Spelled (all_characters lines) items
   pub are : statements ≡ statements_of items

@@ -75,13 +75,18 @@ all_broken breaks rest = record rest { breaks = breaks ++ rest.breaks }
 -- with `&` goes on right behind it; another one stands apart by a blank, and can't go on with a text.
 abbrev pub begun : Mode → ℕ → ℕ → List ℕ → Spliced
 begun Fresh line c cs =
-    if c == 38 then bad_continuation line (if is_comment (from_blank cs) then ends (Goes line too_many_lines) else scan None line too_many_lines cs)
+    if c == 38
+    then bad_continuation line (
+    if is_comment (from_blank cs) then ends (Goes line too_many_lines) else scan None line too_many_lines cs)
     else scan None line too_many_lines (c ∷ cs)
 begun (Goes from left) line c cs = all_broken (fortieth line left) (
-    if c == 38 then (if is_comment (from_blank cs) then bad_continuation line (ends (Goes line (left - 1))) else scan None line (left - 1) cs)
+    if c == 38
+    then (if is_comment (from_blank cs) then bad_continuation line (ends (Goes line (left - 1))) else scan None line (left - 1) cs)
     else put 32 line (scan None line (left - 1) (c ∷ cs)))
 begun (Inside d from left) line c cs = all_broken (fortieth line left) (
-    if c == 38 then (if is_empty (from_blank cs) then bad_continuation line (ends (Inside d line (left - 1))) else scan (Some d) line (left - 1) cs)
+    if c == 38
+    then (if is_empty (from_blank cs) then bad_continuation line (ends (Inside d line (left - 1)))
+    else scan (Some d) line (left - 1) cs)
     else bad_continuation from (close line (scan None line (left - 1) (c ∷ cs))))
 
 -- a line without the blanks at its front: a blank line and a comment are passed over
@@ -99,7 +104,8 @@ too_long line text = if nat_lt longest_line (length text) then broken_at line P3
 
 -- one part, and then the rest
 abbrev pub after : List Break → Spliced → Spliced → Spliced
-after breaks first rest = record { text = first.text ++ rest.text; breaks = (breaks ++ first.breaks) ++ rest.breaks; mode = rest.mode }
+after breaks first rest =
+    record { text = first.text ++ rest.text; breaks = (breaks ++ first.breaks) ++ rest.breaks; mode = rest.mode }
 
 abbrev pub splice : Mode → ℕ → List (List ℕ) → Spliced
 splice m line [] = ends m

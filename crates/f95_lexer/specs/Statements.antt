@@ -87,7 +87,8 @@ parts_of (Stands line t ∷ more) =
 abbrev pub statements_of : List Item → List Statement
 statements_of items = whole (parts_of items)
 
--- Below, for the parts of the code: reading the items one after the other, the statements so far, and the tokens of the one that isn't ended, with their line.
+-- Below, for the parts of the code: reading the items one after the other, the statements so far, and the tokens of the one that
+-- isn't ended, with their line.
 pub record Reading : Type 0 where
   pub list : List Statement
   pub line : ℕ

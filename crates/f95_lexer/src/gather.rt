@@ -1,7 +1,8 @@
 //! Lexemes gathered into statements, with the rules that they break.
 ghost use Rattle.std.specs.Prelude.{◌≡◌, ◌++◌, ◌∷◌, [], map, drop, length, ◌≤◌, IfOk, OnOk};
 ghost use Rattle.f95_lexer.specs.Splicing.{broken_at};
-ghost use Rattle.f95_lexer.specs.Statements.{rules_of, items_at, items_of, token_breaks, lexemes_behind, statements_of, with_statement, first_line, read_on, reading};
+ghost use Rattle.f95_lexer.specs.Statements.{rules_of, items_at, items_of, token_breaks, lexemes_behind, statements_of};
+ghost use Rattle.f95_lexer.specs.Statements.{with_statement, first_line, read_on, reading};
 
 use crate::character::{Break, Character};
 use crate::lexeme::{Lexeme, is_dotted, lexeme_at};
@@ -64,7 +65,8 @@ impl Gatherer {
     fn number(&mut self, line: u32, value: Option<i32>, clings: bool) -> Result<(), AllocError>
         ensures read { OnOk result (reading self.new.list self.new.line self.new.tokens
             ≡ read_on (reading self.old.list self.old.line self.old.tokens) (items_at line (Lexeme.Number value clings))) }
-        ensures breaks { OnOk result (self.new.breaks.items ≡ self.old.breaks.items ++ map (broken_at line) (rules_of (Lexeme.Number value clings))) }
+        ensures breaks { OnOk result (self.new.breaks.items
+            ≡ self.old.breaks.items ++ map (broken_at line) (rules_of (Lexeme.Number value clings))) }
     {
         match value {
             Some(value) => self.token(line, Token::Number(value))?,
@@ -111,7 +113,8 @@ impl Gatherer {
         first: Character,
         more: &'a [Character],
     ) -> Result<&'a [Character], AllocError>
-        ensures read { IfOk result (λ rest. read_on (reading self.new.list self.new.line self.new.tokens) (items_of (lexemes_behind 0 rest.now))
+        ensures read { IfOk result
+            (λ rest. read_on (reading self.new.list self.new.line self.new.tokens) (items_of (lexemes_behind 0 rest.now))
             ≡ read_on (reading self.old.list self.old.line self.old.tokens) (items_of (lexemes_behind 0 (first ∷ more.now)))) }
         ensures breaks { IfOk result (λ rest. self.new.breaks.items ++ token_breaks (lexemes_behind 0 rest.now)
             ≡ self.old.breaks.items ++ token_breaks (lexemes_behind 0 (first ∷ more.now))) }

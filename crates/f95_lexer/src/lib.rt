@@ -1,7 +1,8 @@
 //! The first phase of the reader: bytes to statements. A text is cut into lines; comments and continuations are taken
-//! away; what is left of each statement is cut into tokens. The meaning stands in `specs/`: lines in `Lines`, comments
-//! and continuations in `Splicing`, tokens in `Lexeme`, statements in `Statements`, the ten rules of refusal in `Rules`.
-//! `Spelling` says in the field's words what a text cuts into, and is what `read_statements` promises.
+//! away; what is left of each statement is cut into tokens. The meaning stands in `specs/`: lines in `Lines`, which of them
+//! make a statement in `Continuation`, the ten rules of refusal in `Rules`, and in `Spelling` what a text cuts into, which
+//! `read_statements` promises. Below stand the same words as functions, which the code keeps to: `Splicing`, `Lexeme` and
+//! `Statements`.
 #![tactic(auto)]
 
 mod character;

@@ -2,7 +2,8 @@
 ghost use Rattle.std.specs.Prelude.{◌≡◌, ◌+◌, ◌-◌, ◌++◌, ◌∷◌, ◌<◌, ◌≤◌, ◌^◌, [], length, IfOk, OnOk};
 ghost use Rattle.f95_lexer.specs.Continuation.{opened, kept, character};
 ghost use Rattle.f95_lexer.specs.Characters.{from_blank, is_comment, is_empty};
-ghost use Rattle.f95_lexer.specs.Splicing.{Spliced, broken_at, scan, scanned, begun, line_read, behind, fortieth, spliced, line_breaks, too_long, unfinished};
+ghost use Rattle.f95_lexer.specs.Splicing.{Spliced, broken_at, scan, scanned, begun, line_read, behind, fortieth, spliced};
+ghost use Rattle.f95_lexer.specs.Splicing.{line_breaks, too_long, unfinished};
 ghost use Rattle.f95_lexer.specs.Lines.{text_lines};
 
 use crate::character::{Break, Character, is_blank, is_delimiter};
@@ -129,7 +130,8 @@ impl Splicer {
         c: u8,
         more: &[u8],
     ) -> Result<Next, AllocError>
-        ensures { IfOk result (λ next. behind self.old.text.items self.old.breaks.items (scan (Some delimiter) line left (c ∷ more.now))
+        ensures { IfOk result
+            (λ next. behind self.old.text.items self.old.breaks.items (scan (Some delimiter) line left (c ∷ more.now))
             ≡ behind self.new.text.items self.new.breaks.items (scanned next line more.now)) }
     {
         if c == b'&' && is_empty(more) {
@@ -218,7 +220,8 @@ impl Splicer {
         text: &[u8],
     ) -> Result<Mode, AllocError>
         requires { text.now ≡ first ∷ rest.now }
-        ensures { IfOk result (λ m. behind self.old.text.items self.old.breaks.items (begun (Mode.Goes from left) line first rest.now)
+        ensures { IfOk result
+            (λ m. behind self.old.text.items self.old.breaks.items (begun (Mode.Goes from left) line first rest.now)
             ≡ record { text = self.new.text.items; breaks = self.new.breaks.items; mode = m }) }
     {
         let left = self.counted(line, left)?;
@@ -245,7 +248,8 @@ impl Splicer {
         text: &[u8],
     ) -> Result<Mode, AllocError>
         requires { text.now ≡ first ∷ rest.now }
-        ensures { IfOk result (λ m. behind self.old.text.items self.old.breaks.items (begun (Mode.Inside delimiter from left) line first rest.now)
+        ensures { IfOk result
+            (λ m. behind self.old.text.items self.old.breaks.items (begun (Mode.Inside delimiter from left) line first rest.now)
             ≡ record { text = self.new.text.items; breaks = self.new.breaks.items; mode = m }) }
     {
         let left = self.counted(line, left)?;

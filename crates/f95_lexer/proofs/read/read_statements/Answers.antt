@@ -8,7 +8,8 @@ pub returns-then-bytes-gt-LONGEST_FILE-clause-refused :
 returns-then-bytes-gt-LONGEST_FILE-clause-refused c = long_is_least c.args.bytes.now (omega arith)
 
 pub returns-clause-cut : goal.returns-clause-cut
-returns-clause-cut c = cut_by c.args.bytes.now c.read.result (omega arith) c.read.ensures.unbroken c.read.ensures.list c.read.ensures.feeds
+returns-clause-cut c =
+    cut_by c.args.bytes.now c.read.result (omega arith) c.read.ensures.unbroken c.read.ensures.list c.read.ensures.feeds
 
 pub returns-clause-unbroken : goal.returns-clause-unbroken
 returns-clause-unbroken c = unbroken_by c.args.bytes.now c.read.result (omega arith) c.read.ensures.unbroken

@@ -3,8 +3,16 @@ use Rattle.f95_lexer.proofs.Gathering.{one_read, one_broken, shorter}
 use Rattle.f95_lexer.proofs.gather.Gatherer.next.Goals as goal
 
 pub returns : goal.returns
-returns c = record {
-  read = one_read (reading c.args.self.now.list c.args.self.now.line c.args.self.now.tokens) _ c.args.first c.args.more.now c.behind.result.now c.in_ok-found.found c.in_ok-found.ensures c.in_ok-take.ensures.read c.behind.ensures;
-  breaks = one_broken c.args.self.now.breaks.items _ c.args.first c.args.more.now c.behind.result.now c.in_ok-found.found c.in_ok-found.ensures c.in_ok-take.ensures.breaks c.behind.ensures;
-  shorter = shorter c.args.more.now c.behind.result.now c.in_ok-found.found.further c.behind.ensures;
-}
+returns c =
+    let before = c.args.self.now in
+    let first = c.args.first in
+    let more = c.args.more.now in
+    let behind = c.behind.result.now in
+    let found = c.in_ok-found.found in
+    let taken = c.in_ok-take.ensures in
+    let start = reading before.list before.line before.tokens in
+    record {
+      read = one_read start _ first more behind found c.in_ok-found.ensures taken.read c.behind.ensures;
+      breaks = one_broken before.breaks.items _ first more behind found c.in_ok-found.ensures taken.breaks c.behind.ensures;
+      shorter = shorter more behind found.further c.behind.ensures;
+    }
