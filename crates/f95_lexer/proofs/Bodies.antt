@@ -8,7 +8,8 @@ use Rattle.f95_lexer.specs.declared.splice.Mode.TheVariants.{Fresh, Goes, Inside
 use Rattle.f95_lexer.specs.Characters.{AllPass, is_blank, is_delimiter, from_blank, is_empty, is_comment}
 use Rattle.f95_lexer.specs.Continuation.{opened, kept, open_behind, HasNoComment, IsCode, whole, commented, IsContinued, goes_on}
 use Rattle.f95_lexer.specs.Continuation.{ends, HasBody, has_semicolon, parted, character}
-use Rattle.f95_lexer.specs.Limits.{P5, too_many_lines}
+use Rattle.a95_base.specs.Rules as refusal
+use Rattle.f95_lexer.specs.Limits.{too_many_lines}
 use Rattle.f95_lexer.specs.Splicing.{Spliced, put, broken_at, scan}
 use Rattle.f95_lexer.specs.Splicing as splicing
 use Rattle.f95_lexer.proofs.Written.{skip, stay}
@@ -283,7 +284,7 @@ mode_at (Some d) line left = Inside d line left
 -- rule 5, where a text is open at the end of a line
 abbrev pub open_break : ℕ → Option ℕ → List Break
 open_break line None = []
-open_break line (Some d) = broken_at line P5 ∷ []
+open_break line (Some d) = broken_at line refusal.open_text ∷ []
 
 -- what a line leaves that has this body
 abbrev pub said : Option ℕ → ℕ → ℕ → List ℕ → Bool → Spliced

@@ -13,7 +13,8 @@ use Rattle.f95_lexer.specs.Continuation.{StatementLine, begins_with_ampersand, I
 use Rattle.f95_lexer.specs.Continuation.{IsRead, more, has_semicolon, after, parted, character, characters, BreaksRule, many_lines}
 use Rattle.f95_lexer.specs.Continuation.{open_text, no_second}
 use Rattle.f95_lexer.specs.Continuation as continuation
-use Rattle.f95_lexer.specs.Limits.{P4, P5, P6, too_many_lines}
+use Rattle.a95_base.specs.Rules as refusal
+use Rattle.f95_lexer.specs.Limits.{too_many_lines}
 use Rattle.f95_lexer.specs.Splicing.{Spliced, put, broken_at, fortieth, all_broken, scan, begun, line_read}
 use Rattle.f95_lexer.specs.Splicing as splicing
 use Rattle.f95_lexer.proofs.Bodies.{code_of, body_of, continued_of, ends_here, has_body, body_is, IsContext, comment_code}
@@ -33,12 +34,12 @@ four (GoesOn inside from lines) number = fortieth number (too_many_lines - lines
 
 -- by whether the line begins with `&`, and has it alone
 abbrev six : Onward → ℕ → Bool → Bool → List Break
-six Ended number true only = broken_at number P6 ∷ []
+six Ended number true only = broken_at number refusal.broken_continuation ∷ []
 six Ended number false only = []
-six (GoesOn inside from lines) number true true = broken_at number P6 ∷ []
+six (GoesOn inside from lines) number true true = broken_at number refusal.broken_continuation ∷ []
 six (GoesOn inside from lines) number true false = []
 six (GoesOn None from lines) number false only = []
-six (GoesOn (Some d) from lines) number false only = broken_at from P6 ∷ []
+six (GoesOn (Some d) from lines) number false only = broken_at from refusal.broken_continuation ∷ []
 
 abbrev five : StatementLine → List Break
 five l = cond l.continued [] (open_break l.number (open_behind l.inside l.body))
@@ -265,25 +266,29 @@ four_sound : (l : StatementLine) (before : Onward) (b : Break) → l.before ≡ 
 four_sound l Ended b e h = absurd h
 four_sound l (GoesOn inside from lines) b e h = go (too_many_lines - lines == 1) refl h
   where
-    go : (t : Bool) → too_many_lines - lines == 1 ≡ t → Member (cond t (broken_at l.number P4 ∷ []) []) b
+    go : (t : Bool) → too_many_lines - lines == 1 ≡ t
+        → Member (cond t (broken_at l.number refusal.too_many_continuations ∷ []) []) b
         → BreaksRule l b.line b.rule
-    go true f k = by_break l b l.number P4 (many_lines (ap continuation_number e ∙ fortieth_is lines f)) k
+    go true f k =
+        by_break l b l.number refusal.too_many_continuations (many_lines (ap continuation_number e ∙ fortieth_is lines f)) k
     go false f k = absurd k
 
 six_sound : (l : StatementLine) (only : Bool) (before : Onward) (m : Bool) (b : Break) → IsOnly l only → l.before ≡ before
     → begins_with_ampersand l.text ≡ m → Member (six before l.number m only) b → BreaksRule l b.line b.rule
-six_sound l only Ended true b v e f h = by_break l b l.number P6 (continuation.continues_nothing e f) h
+six_sound l only Ended true b v e f h = by_break l b l.number refusal.broken_continuation (continuation.continues_nothing e f) h
 six_sound l only Ended false b v e f h = absurd h
-six_sound l true (GoesOn inside from lines) true b v e f h = by_break l b l.number P6 (continuation.alone (v.yes refl)) h
+six_sound l true (GoesOn inside from lines) true b v e f h =
+    by_break l b l.number refusal.broken_continuation (continuation.alone (v.yes refl)) h
 six_sound l false (GoesOn inside from lines) true b v e f h = absurd h
 six_sound l only (GoesOn None from lines) false b v e f h = absurd h
-six_sound l only (GoesOn (Some d) from lines) false b v e f h = by_break l b from P6 (no_second d from lines e f) h
+six_sound l only (GoesOn (Some d) from lines) false b v e f h =
+    by_break l b from refusal.broken_continuation (no_second d from lines e f) h
 
 five_sound : (l : StatementLine) (continued : Bool) (shut : Option ℕ) (b : Break) → l.continued ≡ continued
     → open_behind l.inside l.body ≡ shut → Member (cond continued [] (open_break l.number shut)) b → BreaksRule l b.line b.rule
 five_sound l true shut b e f h = absurd h
 five_sound l false None b e f h = absurd h
-five_sound l false (Some d) b e f h = by_break l b l.number P5 (open_text d e f) h
+five_sound l false (Some d) b e f h = by_break l b l.number refusal.open_text (open_text d e f) h
 
 sound : (l : StatementLine) (only : Bool) (b : Break) → IsOnly l only → Member (breaks_of l only) b → BreaksRule l b.line b.rule
 sound l only b v h = ⊎_elim
@@ -296,12 +301,14 @@ sound l only b v h = ⊎_elim
     (Member-append_cases (four l.before l.number) (six l.before l.number (begins_with_ampersand l.text) only ++ five l) b h)
 
 four_complete : (before : Onward) (number : ℕ) → continuation_number before ≡ too_many_lines
-    → Member (four before number) (broken_at number P4)
+    → Member (four before number) (broken_at number refusal.too_many_continuations)
 four_complete Ended number e = cc
 four_complete (GoesOn inside from lines) number e =
-    subst (λ t. Member (cond t (broken_at number P4 ∷ []) []) (broken_at number P4)) (sym (is_fortieth lines e)) (inl refl)
+    subst
+    (λ t. Member (cond t (broken_at number refusal.too_many_continuations ∷ []) [])
+    (broken_at number refusal.too_many_continuations)) (sym (is_fortieth lines e)) (inl refl)
 
-six_alone : (before : Onward) (number : ℕ) → Member (six before number true true) (broken_at number P6)
+six_alone : (before : Onward) (number : ℕ) → Member (six before number true true) (broken_at number refusal.broken_continuation)
 six_alone Ended number = inl refl
 six_alone (GoesOn inside from lines) number = inl refl
 
@@ -311,28 +318,32 @@ complete l only line rule v (many_lines e) = Member-append_left (four l.before l
 complete l only line rule v (open_text d e f) =
     Member-append_right (four l.before l.number) _ _
     (Member-append_right (six l.before l.number (begins_with_ampersand l.text) only) (five l) _
-    (subst (λ t. Member (cond t [] (open_break l.number (open_behind l.inside l.body))) (broken_at l.number P5)) (sym e)
-    (subst (λ o. Member (open_break l.number o) (broken_at l.number P5)) (sym f) (inl refl))))
+    (subst (λ t. Member (cond t [] (open_break l.number (open_behind l.inside l.body))) (broken_at l.number refusal.open_text))
+    (sym e)
+    (subst (λ o. Member (open_break l.number o) (broken_at l.number refusal.open_text)) (sym f) (inl refl))))
 complete l only line rule v (continuation.alone h) =
     Member-append_right (four l.before l.number) _ _
     (Member-append_left (six l.before l.number (begins_with_ampersand l.text) only) (five l) _ (by_only only v refl))
   where
     by_only : (o : Bool) → IsOnly l o → o ≡ only
-        → Member (six l.before l.number (begins_with_ampersand l.text) only) (broken_at l.number P6)
+        → Member (six l.before l.number (begins_with_ampersand l.text) only) (broken_at l.number refusal.broken_continuation)
     by_only true w same =
-        subst (λ m. Member (six l.before l.number m only) (broken_at l.number P6)) (sym (w.ampersand refl))
-        (subst (λ o. Member (six l.before l.number true o) (broken_at l.number P6)) same (six_alone l.before l.number))
+        subst (λ m. Member (six l.before l.number m only) (broken_at l.number refusal.broken_continuation)) (sym (w.ampersand refl))
+        (subst (λ o. Member (six l.before l.number true o) (broken_at l.number refusal.broken_continuation)) same
+        (six_alone l.before l.number))
     by_only false w same = absurd (w.no refl h)
 complete l only line rule v (continuation.continues_nothing e f) =
     Member-append_right (four l.before l.number) _ _
     (Member-append_left (six l.before l.number (begins_with_ampersand l.text) only) (five l) _
-    (subst (λ x. Member (six x l.number (begins_with_ampersand l.text) only) (broken_at l.number P6)) (sym e)
-    (subst (λ m. Member (six Ended l.number m only) (broken_at l.number P6)) (sym f) (inl refl))))
+    (subst (λ x. Member (six x l.number (begins_with_ampersand l.text) only) (broken_at l.number refusal.broken_continuation))
+    (sym e)
+    (subst (λ m. Member (six Ended l.number m only) (broken_at l.number refusal.broken_continuation)) (sym f) (inl refl))))
 complete l only line rule v (no_second d from lines e f) =
     Member-append_right (four l.before l.number) _ _
     (Member-append_left (six l.before l.number (begins_with_ampersand l.text) only) (five l) _
-    (subst (λ x. Member (six x l.number (begins_with_ampersand l.text) only) (broken_at from P6)) (sym e)
-    (subst (λ m. Member (six (GoesOn (Some d) from lines) l.number m only) (broken_at from P6)) (sym f) (inl refl))))
+    (subst (λ x. Member (six x l.number (begins_with_ampersand l.text) only) (broken_at from refusal.broken_continuation)) (sym e)
+    (subst (λ m. Member (six (GoesOn (Some d) from lines) l.number m only) (broken_at from refusal.broken_continuation)) (sym f)
+    (inl refl))))
 
 -- what splicing makes of a line
 pub record IsSpliced (l : StatementLine) (s : Spliced) : Type 0 where

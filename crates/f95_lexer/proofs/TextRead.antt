@@ -12,7 +12,8 @@ use Rattle.f95_lexer.specs.Continuation.{begins_with_ampersand, IsAlone, Begins,
 use Rattle.f95_lexer.specs.Continuation.{has_semicolon, after, characters, AreRead, none, passed, stands, HasLines, all_characters}
 use Rattle.f95_lexer.specs.Continuation.{BreaksRule}
 use Rattle.f95_lexer.specs.Continuation as continuation
-use Rattle.f95_lexer.specs.Limits.{P3, P6, longest_line}
+use Rattle.a95_base.specs.Rules as refusal
+use Rattle.f95_lexer.specs.Limits.{longest_line}
 use Rattle.f95_lexer.specs.Lines.{text_lines}
 use Rattle.f95_lexer.specs.Splicing.{Spliced, broken_at, line_read, too_long, splice, spliced, unfinished, line_breaks}
 use Rattle.f95_lexer.specs.Splicing as splicing
@@ -165,15 +166,15 @@ pub record OneBreaks (lines : List StatementLine) (line rule : ℕ) : Type 0 whe
 pub record AreSpliced (lines : List StatementLine) (behind : Onward) (s : Spliced) : Type 0 where
   pub text : s.text ≡ all_characters lines
   pub mode : s.mode ≡ mode_of behind
-  pub sound : (b : Break) → Member s.breaks b → (b.rule ≡ P3) ⊎ OneBreaks lines b.line b.rule
+  pub sound : (b : Break) → Member s.breaks b → (b.rule ≡ refusal.line_too_long) ⊎ OneBreaks lines b.line b.rule
   pub complete : (l : StatementLine) (line rule : ℕ) → Member lines l → BreaksRule l line rule
       → Member s.breaks (broken_at line rule)
 
-long_rule : (n : ℕ) (text : List ℕ) (b : Break) → Member (too_long n text) b → b.rule ≡ P3
+long_rule : (n : ℕ) (text : List ℕ) (b : Break) → Member (too_long n text) b → b.rule ≡ refusal.line_too_long
 long_rule n text b h = go (nat_lt longest_line (length text)) h
   where
-    go : (t : Bool) → Member (cond t (broken_at n P3 ∷ []) []) b → b.rule ≡ P3
-    go true k = ⊎_elim (λ (e : broken_at n P3 ≡ b). sym (ap (λ (x : Break). x.rule) e)) (λ (x : ⊥). absurd x) k
+    go : (t : Bool) → Member (cond t (broken_at n refusal.line_too_long ∷ []) []) b → b.rule ≡ refusal.line_too_long
+    go true k = ⊎_elim (λ (e : broken_at n refusal.line_too_long ≡ b). sym (ap (λ (x : Break). x.rule) e)) (λ (x : ⊥). absurd x) k
     go false k = absurd k
 
 passed_line : (m : Mode) (n : ℕ) (text : List ℕ) → is_comment text ≡ true → line_read m n text ≡ splicing.ends m
@@ -216,7 +217,7 @@ line_spliced l n first text texts lines behind f r = record {
       (λ (y : Member first.breaks b). inr (record { which = l; has = inl refl; breaks = f.sound b y }))
       (Member-append_cases (too_long n text) first.breaks b x))
       (λ (x : Member (splice first.mode (n + 1) texts).breaks b). ⊎_elim
-      (λ (y : b.rule ≡ P3). inl y)
+      (λ (y : b.rule ≡ refusal.line_too_long). inl y)
       (λ (y : OneBreaks lines b.line b.rule). inr (later l lines b.line b.rule y))
       (r.sound b x))
       (Member-append_cases (too_long n text ++ first.breaks) (splice first.mode (n + 1) texts).breaks b h);
@@ -254,10 +255,10 @@ lines_spliced bytes lines behind r = are_spliced Ended 1 (text_lines bytes) line
 
 -- rule 6, where a statement goes on behind the last line
 unfinished_sound : (behind : Onward) (b : Break) → Member (unfinished (mode_of behind)) b → (inside : Option ℕ) × (lines : ℕ)
-    × (behind ≡ GoesOn inside b.line lines) × (b.rule ≡ P6)
+    × (behind ≡ GoesOn inside b.line lines) × (b.rule ≡ refusal.broken_continuation)
 unfinished_sound Ended b h = absurd h
 unfinished_sound (GoesOn None from lines) b h = ⊎_elim
-    (λ (e : broken_at from P6
+    (λ (e : broken_at from refusal.broken_continuation
     ≡ b). (
       None,
       lines,
@@ -265,7 +266,7 @@ unfinished_sound (GoesOn None from lines) b h = ⊎_elim
       sym (ap (λ (x : Break). x.rule) e),
     )) (λ (x : ⊥). absurd x) h
 unfinished_sound (GoesOn (Some d) from lines) b h = ⊎_elim
-    (λ (e : broken_at from P6
+    (λ (e : broken_at from refusal.broken_continuation
     ≡ b). (
       Some d,
       lines,
@@ -274,22 +275,23 @@ unfinished_sound (GoesOn (Some d) from lines) b h = ⊎_elim
     )) (λ (x : ⊥). absurd x) h
 
 unfinished_complete : (inside : Option ℕ) (from lines : ℕ)
-    → Member (unfinished (mode_of (GoesOn inside from lines))) (broken_at from P6)
+    → Member (unfinished (mode_of (GoesOn inside from lines))) (broken_at from refusal.broken_continuation)
 unfinished_complete None from lines = inl refl
 unfinished_complete (Some d) from lines = inl refl
 
 -- the rules of lines that a text breaks, but for the length of a line
 pub data LineBreak (lines : List StatementLine) (behind : Onward) : ℕ → ℕ → Type 0 where
   of_line : (line rule : ℕ) → OneBreaks lines line rule → LineBreak lines behind line rule
-  no_further : (inside : Option ℕ) (from count : ℕ) → behind ≡ GoesOn inside from count → LineBreak lines behind from P6
+  no_further : (inside : Option ℕ) (from count : ℕ) → behind ≡ GoesOn inside from count
+      → LineBreak lines behind from refusal.broken_continuation
 
 pub break_sound : (bytes : List ℕ) (lines : List StatementLine) (behind : Onward) (b : Break) → HasLines bytes lines behind
-    → Member (line_breaks bytes) b → (b.rule ≡ P3) ⊎ LineBreak lines behind b.line b.rule
+    → Member (line_breaks bytes) b → (b.rule ≡ refusal.line_too_long) ⊎ LineBreak lines behind b.line b.rule
 break_sound bytes lines behind b r h =
     let s = lines_spliced bytes lines behind r in
     ⊎_elim
     (λ (x : Member (spliced bytes).breaks b). ⊎_elim (λ (y : b.rule
-    ≡ P3). inl y) (λ (y : OneBreaks lines b.line b.rule). inr (of_line b.line b.rule y)) (s.sound b x))
+    ≡ refusal.line_too_long). inl y) (λ (y : OneBreaks lines b.line b.rule). inr (of_line b.line b.rule y)) (s.sound b x))
     (λ (x : Member (unfinished (spliced bytes).mode) b).
     let u = unfinished_sound behind b (subst (λ m. Member (unfinished m) b) s.mode x) in
     inr (subst (λ rule. LineBreak lines behind b.line rule) (sym u.3) (no_further u.0 b.line u.1 u.2)))
@@ -301,6 +303,6 @@ break_complete bytes lines behind line rule r (of_line n k o) =
     Member-append_left (spliced bytes).breaks (unfinished (spliced bytes).mode) (broken_at n k)
     ((lines_spliced bytes lines behind r).complete o.which n k o.has o.breaks)
 break_complete bytes lines behind line rule r (no_further inside from count e) =
-    Member-append_right (spliced bytes).breaks (unfinished (spliced bytes).mode) (broken_at from P6)
-    (subst (λ m. Member (unfinished m) (broken_at from P6)) (sym ((lines_spliced bytes lines behind r).mode
+    Member-append_right (spliced bytes).breaks (unfinished (spliced bytes).mode) (broken_at from refusal.broken_continuation)
+    (subst (λ m. Member (unfinished m) (broken_at from refusal.broken_continuation)) (sym ((lines_spliced bytes lines behind r).mode
     ∙ ap mode_of e)) (unfinished_complete inside from count))

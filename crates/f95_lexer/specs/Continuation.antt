@@ -5,7 +5,8 @@ use Rattle.std.specs.Prelude.{if◌then◌else◌}
 use Rattle.std.specs.List.{flat_map}
 use Rattle.f95_lexer.specs.declared.character.Character.{Character}
 use Rattle.f95_lexer.specs.Characters.{is_blank, is_delimiter, AllPass, begins, from_blank, is_comment}
-use Rattle.f95_lexer.specs.Limits.{P4, P5, P6, too_many_lines}
+use Rattle.a95_base.specs.Rules as refusal
+use Rattle.f95_lexer.specs.Limits.{too_many_lines}
 use Rattle.f95_lexer.specs.Lines.{text_lines}
 
 -- Texts. None is outside of texts, and Some is inside of one with that delimiter.
@@ -146,13 +147,13 @@ all_characters lines = flat_map characters lines
 -- the rules that a line of a statement breaks, each with the line that it names
 pub data BreaksRule (l : StatementLine) : (line rule : ℕ) → Type 0 where
   -- rule 4: the line is the 40th continuation line of its statement
-  many_lines : continuation_number l.before ≡ too_many_lines → BreaksRule l l.number P4
+  many_lines : continuation_number l.before ≡ too_many_lines → BreaksRule l l.number refusal.too_many_continuations
   -- rule 5: a text isn't closed on its line, and no `&` ends the line
-  open_text : (d : ℕ) → l.continued ≡ false → open_behind l.inside l.body ≡ Some d → BreaksRule l l.number P5
+  open_text : (d : ℕ) → l.continued ≡ false → open_behind l.inside l.body ≡ Some d → BreaksRule l l.number refusal.open_text
   -- rule 6: the line has `&` alone
-  alone : IsAlone l.before l.text → BreaksRule l l.number P6
+  alone : IsAlone l.before l.text → BreaksRule l l.number refusal.broken_continuation
   -- rule 6: the line continues nothing and begins with `&`
-  continues_nothing : l.before ≡ Ended → begins_with_ampersand l.text ≡ true → BreaksRule l l.number P6
+  continues_nothing : l.before ≡ Ended → begins_with_ampersand l.text ≡ true → BreaksRule l l.number refusal.broken_continuation
   -- rule 6: the line continues a text and doesn't begin with `&`; it is the line of the `&` before
   no_second : (d from lines : ℕ) → l.before ≡ GoesOn (Some d) from lines → begins_with_ampersand l.text ≡ false
-      → BreaksRule l from P6
+      → BreaksRule l from refusal.broken_continuation

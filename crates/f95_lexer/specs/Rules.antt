@@ -9,7 +9,9 @@ use Rattle.f95_lexer.specs.declared.lexeme.Lexeme.{Lexeme}
 use Rattle.f95_lexer.specs.declared.lexeme.Lexeme.TheVariants as lexeme
 use Rattle.f95_lexer.specs.Continuation.{Onward, GoesOn, StatementLine, HasLines, all_characters, BreaksRule}
 use Rattle.f95_lexer.specs.Lexeme.{is_dotted}
-use Rattle.f95_lexer.specs.Limits.{P1, P2, P3, P6, P7, P8, P9, P10, longest_file, longest_line, longest_word}
+use Rattle.a95_base.specs.Rules as refusal
+use Rattle.a95_base.specs.Limits.{longest_word}
+use Rattle.f95_lexer.specs.Limits.{longest_file, longest_line}
 use Rattle.f95_lexer.specs.Lines.{text_lines}
 use Rattle.f95_lexer.specs.Splicing.{broken_at, line_breaks}
 use Rattle.f95_lexer.specs.Statements.{lexemes_of, lexemes_behind, token_breaks}
@@ -50,23 +52,28 @@ FindsNoLine bytes from =
 -- the bytes break the rule on the line
 pub data IsBroken (bytes : List ℕ) : ℕ → ℕ → Type 0 where
   -- rule 1: the file has more than 2^20 bytes
-  long_file : longest_file < length bytes → IsBroken bytes 1 P1
+  long_file : longest_file < length bytes → IsBroken bytes 1 refusal.file_too_long
   -- rule 2: outside of comments and texts a byte belongs to nothing
-  stray : {line : ℕ} → Stands bytes line lexeme.Stray → IsBroken bytes line P2
+  stray : {line : ℕ} → Stands bytes line lexeme.Stray → IsBroken bytes line refusal.stray_byte
   -- rule 3: a line has more than 132 characters
-  long_line : {line : ℕ} (text : List ℕ) → IsLine bytes line text → longest_line < length text → IsBroken bytes line P3
+  long_line : {line : ℕ} (text : List ℕ) → IsLine bytes line text → longest_line < length text
+      → IsBroken bytes line refusal.line_too_long
   -- rules 4, 5 and 6, as `BreaksRule` says of a line
   in_line : {line rule : ℕ} → BreaksInLine bytes line rule → IsBroken bytes line rule
   -- rule 6: a continuation finds no further line
-  no_further_line : {line : ℕ} → FindsNoLine bytes line → IsBroken bytes line P6
+  no_further_line : {line : ℕ} → FindsNoLine bytes line → IsBroken bytes line refusal.broken_continuation
   -- rule 7: a word has more than 31 characters
-  long_word : {line : ℕ} (w : List ℕ) → Stands bytes line (lexeme.Word w) → longest_word < length w → IsBroken bytes line P7
+  long_word : {line : ℕ} (w : List ℕ) → Stands bytes line (lexeme.Word w) → longest_word < length w
+      → IsBroken bytes line refusal.word_too_long
   -- rule 8: a number is greater than 2147483647
-  large_number : {line : ℕ} (clings : Bool) → Stands bytes line (lexeme.Number None clings) → IsBroken bytes line P8
+  large_number : {line : ℕ} (clings : Bool) → Stands bytes line (lexeme.Number None clings)
+      → IsBroken bytes line refusal.number_too_great
   -- rule 9: a number is directly followed by a letter, an underscore or a point that begins no dotted word
-  number_runs_on : {line : ℕ} (value : Option ℤ) → Stands bytes line (lexeme.Number value true) → IsBroken bytes line P9
+  number_runs_on : {line : ℕ} (value : Option ℤ) → Stands bytes line (lexeme.Number value true)
+      → IsBroken bytes line refusal.number_runs_on
   -- rule 10: letters stand between two points that are no dotted word
-  no_dotted_word : {line : ℕ} (w : List ℕ) → Stands bytes line (lexeme.Pointed w) → is_dotted w ≡ false → IsBroken bytes line P10
+  no_dotted_word : {line : ℕ} (w : List ℕ) → Stands bytes line (lexeme.Pointed w) → is_dotted w ≡ false
+      → IsBroken bytes line refusal.unknown_dotted_word
 
 -- a line and a rule come before another line and rule, or are the same
 abbrev pub ComesFirst : ℕ → ℕ → ℕ → ℕ → Type 0

@@ -8,7 +8,8 @@ use Rattle.f95_lexer.specs.declared.splice.Next.{Next}
 use Rattle.f95_lexer.specs.declared.splice.Next.TheVariants as following
 use Rattle.f95_lexer.specs.Characters.{from_blank, is_empty, is_comment}
 use Rattle.f95_lexer.specs.Continuation.{opened, kept, character}
-use Rattle.f95_lexer.specs.Limits.{P3, P4, P5, P6, longest_line, too_many_lines}
+use Rattle.a95_base.specs.Rules as refusal
+use Rattle.f95_lexer.specs.Limits.{longest_line, too_many_lines}
 use Rattle.f95_lexer.specs.Lines.{text_lines}
 
 -- characters, the rules broken so far, and how the last line ended
@@ -37,11 +38,11 @@ breaks_rule line r rest = record rest { breaks = broken_at line r ∷ rest.break
 
 -- rule 5: a text is neither closed on the line nor continued
 abbrev pub open_text : ℕ → Spliced → Spliced
-open_text line rest = breaks_rule line P5 rest
+open_text line rest = breaks_rule line refusal.open_text rest
 
 -- rule 6: the continuation that begins or stands on the line isn't whole
 abbrev pub bad_continuation : ℕ → Spliced → Spliced
-bad_continuation line rest = breaks_rule line P6 rest
+bad_continuation line rest = breaks_rule line refusal.broken_continuation rest
 
 -- The rest of a line, outside of texts or inside of one with that delimiter. Outside, `!` begins a comment and `;` ends
 -- a statement. Behind an `&` that is the last character, but for blanks and outside of texts a comment, the statement goes on.
@@ -65,7 +66,7 @@ scanned (following.Goes inside left) line cs = scan inside line left cs
 
 -- rule 4: a statement has a 40th continuation line
 abbrev pub fortieth : ℕ → ℕ → List Break
-fortieth line left = if left == 1 then broken_at line P4 ∷ [] else []
+fortieth line left = if left == 1 then broken_at line refusal.too_many_continuations ∷ [] else []
 
 -- these rules are broken, and then the rest
 abbrev pub all_broken : List Break → Spliced → Spliced
@@ -100,7 +101,7 @@ behind text breaks rest = record { text = text ++ rest.text; breaks = breaks ++ 
 
 -- rule 3: a line has more than 132 characters
 abbrev pub too_long : ℕ → List ℕ → List Break
-too_long line text = if nat_lt longest_line (length text) then broken_at line P3 ∷ [] else []
+too_long line text = if nat_lt longest_line (length text) then broken_at line refusal.line_too_long ∷ [] else []
 
 -- one part, and then the rest
 abbrev pub after : List Break → Spliced → Spliced → Spliced
@@ -116,8 +117,8 @@ splice m line (text ∷ texts) =
 -- rule 6: a continuation that finds no further line
 abbrev pub unfinished : Mode → List Break
 unfinished Fresh = []
-unfinished (Goes line left) = broken_at line P6 ∷ []
-unfinished (Inside d line left) = broken_at line P6 ∷ []
+unfinished (Goes line left) = broken_at line refusal.broken_continuation ∷ []
+unfinished (Inside d line left) = broken_at line refusal.broken_continuation ∷ []
 
 -- the whole text
 abbrev pub spliced : List ℕ → Spliced

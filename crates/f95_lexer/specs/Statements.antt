@@ -9,7 +9,8 @@ use Rattle.f95_lexer.specs.declared.token.Token.{Token}
 use Rattle.f95_lexer.specs.declared.token.Token.TheVariants as token
 use Rattle.f95_lexer.specs.declared.token.Statement.{Statement}
 use Rattle.f95_lexer.specs.Lexeme.{bytes_of, found_at, is_dotted}
-use Rattle.f95_lexer.specs.Limits.{P2, P7, P8, P9, P10, longest_word}
+use Rattle.a95_base.specs.Rules as refusal
+use Rattle.a95_base.specs.Limits.{longest_word}
 use Rattle.f95_lexer.specs.Splicing.{broken_at, spliced}
 
 -- a lexeme on the line of its first character
@@ -30,14 +31,14 @@ lexemes_of bytes = lexemes_behind 0 (spliced bytes).text
 
 -- the rules that a lexeme breaks
 abbrev pub if_clings : Bool → List ℕ
-if_clings clings = if clings then P9 ∷ [] else []
+if_clings clings = if clings then refusal.number_runs_on ∷ [] else []
 
 abbrev pub rules_of : Lexeme → List ℕ
-rules_of (lexeme.Word w) = if nat_lt longest_word (length w) then P7 ∷ [] else []
-rules_of (lexeme.Number None clings) = P8 ∷ if_clings clings
+rules_of (lexeme.Word w) = if nat_lt longest_word (length w) then refusal.word_too_long ∷ [] else []
+rules_of (lexeme.Number None clings) = refusal.number_too_great ∷ if_clings clings
 rules_of (lexeme.Number (Some z) clings) = if_clings clings
-rules_of (lexeme.Pointed w) = if is_dotted w then [] else P10 ∷ []
-rules_of lexeme.Stray = P2 ∷ []
+rules_of (lexeme.Pointed w) = if is_dotted w then [] else refusal.unknown_dotted_word ∷ []
+rules_of lexeme.Stray = refusal.stray_byte ∷ []
 rules_of l = []
 
 abbrev pub token_breaks : List Placed → List Break

@@ -6,9 +6,8 @@ ghost use Rattle.f95_lexer.specs.Statements.{with_statement, first_line, read_on
 
 use crate::character::{Break, Character};
 use crate::lexeme::{Lexeme, is_dotted, lexeme_at};
-use crate::limits::{LONGEST_WORD, P2, P7, P8, P9, P10};
 use crate::token::{Statement, Token};
-use a95_base::Line;
+use a95_base::{LONGEST_WORD, Line, Rule};
 use sqlite_items::Items;
 use std::alloc::{AllocError, Global};
 use std::mem;
@@ -52,13 +51,13 @@ impl Gatherer {
         })
     }
 
-    fn note(&mut self, line: u32, rule: u8) -> Result<(), AllocError>
-        ensures breaks { OnOk result (self.new.breaks.items ≡ self.old.breaks.items ++ broken_at line rule ∷ []) }
+    fn note(&mut self, line: u32, rule: Rule) -> Result<(), AllocError>
+        ensures breaks { OnOk result (self.new.breaks.items ≡ self.old.breaks.items ++ broken_at line rule.0 ∷ []) }
         ensures list { self.new.list ≡ self.old.list }
         ensures line { self.new.line ≡ self.old.line }
         ensures tokens { self.new.tokens ≡ self.old.tokens }
     {
-        self.breaks.push(Break { line, rule })?;
+        self.breaks.push(Break { line, rule: rule.0 })?;
         Ok(())
     }
 
@@ -70,10 +69,10 @@ impl Gatherer {
     {
         match value {
             Some(value) => self.token(line, Token::Number(value))?,
-            None => self.note(line, P8)?,
+            None => self.note(line, Rule::NUMBER_TOO_GREAT)?,
         }
         if clings {
-            self.note(line, P9)?;
+            self.note(line, Rule::NUMBER_RUNS_ON)?;
         }
         Ok(())
     }
@@ -89,7 +88,7 @@ impl Gatherer {
             Lexeme::End => self.end(alloc),
             Lexeme::Word(word) => {
                 if word.len() > LONGEST_WORD {
-                    self.note(line, P7)?;
+                    self.note(line, Rule::WORD_TOO_LONG)?;
                 }
                 self.token(line, Token::Word(word))
             }
@@ -97,12 +96,12 @@ impl Gatherer {
             Lexeme::Text(bytes) => self.token(line, Token::Text(bytes)),
             Lexeme::Pointed(word) => {
                 if !is_dotted(word.as_slice()) {
-                    self.note(line, P10)?;
+                    self.note(line, Rule::UNKNOWN_DOTTED_WORD)?;
                 }
                 self.token(line, Token::Dotted(word))
             }
             Lexeme::Symbol(mark) => self.token(line, Token::Mark(mark)),
-            Lexeme::Stray => self.note(line, P2),
+            Lexeme::Stray => self.note(line, Rule::STRAY_BYTE),
         }
     }
 

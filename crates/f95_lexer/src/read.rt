@@ -7,7 +7,7 @@ ghost use Rattle.f95_lexer.specs.Rules.{comes_first, first_from, first_of, break
 
 use crate::character::Break;
 use crate::gather::gather;
-use crate::limits::{LONGEST_FILE, P1};
+use crate::limits::LONGEST_FILE;
 use crate::splice::{Splicer, splice};
 use crate::token::Statements;
 use a95_base::{Line, PhaseError, Rule};
@@ -79,7 +79,7 @@ pub fn read_statements(alloc: Global, bytes: &[u8]) -> Result<Statements, PhaseE
     if bytes.len() > LONGEST_FILE {
         return Err(PhaseError::Broken {
             line: Line(1),
-            rule: Rule(P1),
+            rule: Rule::FILE_TOO_LONG,
         });
     }
     read(alloc, bytes)

@@ -7,7 +7,8 @@ ghost use Rattle.f95_lexer.specs.Splicing.{line_breaks, too_long, unfinished};
 ghost use Rattle.f95_lexer.specs.Lines.{text_lines};
 
 use crate::character::{Break, Character, is_blank, is_delimiter};
-use crate::limits::{LONGEST_LINE, P3, P4, P5, P6, TOO_MANY_LINES};
+use crate::limits::{LONGEST_LINE, TOO_MANY_LINES};
+use a95_base::Rule;
 use bstr::{ByteSlice, Lines};
 use std::alloc::{AllocError, Global};
 
@@ -93,11 +94,11 @@ impl Splicer {
         Ok(())
     }
 
-    fn note(&mut self, line: u32, rule: u8) -> Result<(), AllocError>
-        ensures breaks { OnOk result (self.new.breaks.items ≡ self.old.breaks.items ++ broken_at line rule ∷ []) }
+    fn note(&mut self, line: u32, rule: Rule) -> Result<(), AllocError>
+        ensures breaks { OnOk result (self.new.breaks.items ≡ self.old.breaks.items ++ broken_at line rule.0 ∷ []) }
         ensures text { self.new.text.items ≡ self.old.text.items }
     {
-        self.breaks.push(Break { line, rule })?;
+        self.breaks.push(Break { line, rule: rule.0 })?;
         Ok(())
     }
 
@@ -172,7 +173,7 @@ impl Splicer {
             rest = more;
         }
         if inside.is_some() {
-            self.note(line, P5)?;
+            self.note(line, Rule::OPEN_TEXT)?;
         }
         self.put(b'\n', line)?;
         Ok(Mode::Fresh)
@@ -187,7 +188,7 @@ impl Splicer {
         if first != b'&' {
             return self.scan(None, line, TOO_MANY_LINES, text);
         }
-        self.note(line, P6)?;
+        self.note(line, Rule::BROKEN_CONTINUATION)?;
         if is_comment(rest) {
             return Ok(Mode::Goes {
                 line,
@@ -204,7 +205,7 @@ impl Splicer {
         ensures text { self.new.text.items ≡ self.old.text.items }
     {
         if left == 1 {
-            self.note(line, P4)?;
+            self.note(line, Rule::TOO_MANY_CONTINUATIONS)?;
         }
         Ok(left.saturating_sub(1))
     }
@@ -230,7 +231,7 @@ impl Splicer {
             return self.scan(None, line, left, text);
         }
         if is_comment(rest) {
-            self.note(line, P6)?;
+            self.note(line, Rule::BROKEN_CONTINUATION)?;
             return Ok(Mode::Goes { line, left });
         }
         self.scan(None, line, left, rest)
@@ -254,12 +255,12 @@ impl Splicer {
     {
         let left = self.counted(line, left)?;
         if first != b'&' {
-            self.note(from, P6)?;
+            self.note(from, Rule::BROKEN_CONTINUATION)?;
             self.put(b'\n', line)?;
             return self.scan(None, line, left, text);
         }
         if is_empty(rest) {
-            self.note(line, P6)?;
+            self.note(line, Rule::BROKEN_CONTINUATION)?;
             return Ok(Mode::Inside {
                 delimiter,
                 line,
@@ -275,7 +276,7 @@ impl Splicer {
         ensures text { self.new.text.items ≡ self.old.text.items }
     {
         if text.len() > LONGEST_LINE {
-            self.note(line, P3)?;
+            self.note(line, Rule::LINE_TOO_LONG)?;
         }
         Ok(())
     }
@@ -287,7 +288,10 @@ impl Splicer {
     {
         match mode {
             Mode::Fresh => Ok(()),
-            Mode::Goes { line, .. } | Mode::Inside { line, .. } => self.note(line, P6),
+            Mode::Goes { line, .. } | Mode::Inside { line, .. } => self.note(
+                line,
+                Rule::BROKEN_CONTINUATION,
+            ),
         }
     }
 
