@@ -28,12 +28,16 @@ pub kept_front : (old new : Option (List ℕ)) (piece : List ℕ) → Keeps old 
 kept_front old new piece k = (0, kept_appends old new k)
 
 -- a piece, and then a front of the next, are a front of both
-pub front_behind : (old mid new : Option (List ℕ)) (first next : List ℕ) → Appends old mid first → AppendsPrefix mid new next → AppendsPrefix old new (first ++ next)
-front_behind old mid new first next a f =
-    (length first + f.0, subst (Appends old new) (sym (take-append-add first next f.0)) (Appends-trans old mid new first (take f.0 next) a f.1))
+pub front_behind : (old mid new : Option (List ℕ)) (first next : List ℕ) → Appends old mid first → AppendsPrefix mid new next
+    → AppendsPrefix old new (first ++ next)
+front_behind old mid new first next a f = (
+  length first + f.0,
+  subst (Appends old new) (sym (take-append-add first next f.0)) (Appends-trans old mid new first (take f.0 next) a f.1),
+)
 
 -- a front of a piece is a front of the piece with more behind it
-pub front_more : (old new : Option (List ℕ)) (piece more : List ℕ) → AppendsPrefix old new piece → AppendsPrefix old new (piece ++ more)
+pub front_more : (old new : Option (List ℕ)) (piece more : List ℕ) → AppendsPrefix old new piece
+    → AppendsPrefix old new (piece ++ more)
 front_more old new piece more f =
     let n = min f.0 (length piece) in
     (n, subst (Appends old new) (sym (take-append-le n piece more (omega arith) ∙ take_min f.0 piece)) f.1)

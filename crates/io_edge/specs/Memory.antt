@@ -1,5 +1,6 @@
 -- What the objects in memory are, as contracts see them.
-use Rattle.std.specs.Prelude.{ℕ, min, Bool, not, ◌&&◌, ◌==◌, List, [], ◌∷◌, length, if◌then◌else◌, Option, Some, None, is_some, bytes_eq}
+use Rattle.std.specs.Prelude.{ℕ, min, Bool, not, ◌&&◌, ◌==◌, List, [], ◌∷◌, length, if◌then◌else◌, Option, Some, None, is_some}
+use Rattle.std.specs.Prelude.{bytes_eq}
 use Rattle.std.specs.List.{list_any}
 use Rattle.io_edge.specs.Causes.{one_more}
 
@@ -16,7 +17,8 @@ pub record Files : Type 0 where
   pub faults : ℕ
   pub failed : List ℕ
 
--- a source: the bytes that are left, the most that one call gives, the numbers of the calls that fail, the calls so far, and those that failed
+-- a source: the bytes that are left, the most that one call gives, the numbers of the calls that fail, the calls so far, and those
+-- that failed
 pub record Input : Type 0 where
   pub left : List ℕ
   pub piece : ℕ
@@ -24,7 +26,8 @@ pub record Input : Type 0 where
   pub calls : ℕ
   pub faults : ℕ
 
--- a sink: the bytes that it holds, the most that a failing call passes, the numbers of the calls that fail, the calls so far, and those that failed
+-- a sink: the bytes that it holds, the most that a failing call passes, the numbers of the calls that fail, the calls so far, and
+-- those that failed
 pub record Output : Type 0 where
   pub written : List ℕ
   pub passed : ℕ

@@ -105,7 +105,8 @@ fn append_all<R: Read>(reader: &mut R, into: &mut Vec<u8>) -> Result<(), LoadFau
 fn append_piece<R: Read>(reader: &mut R, into: &mut Vec<u8>) -> Result<usize, LoadFault>
     ensures count { IfOk result (λ n. vec_len into.new ≡ vec_len into.old + n) }
     ensures front { StartsWith into.new.items into.old.items }
-    ensures taken { OnOk result (Consumes (R.remaining reader.old) (R.remaining reader.new) (appended_bytes into.old.items into.new.items)) }
+    ensures taken { OnOk result
+        (Consumes (R.remaining reader.old) (R.remaining reader.new) (appended_bytes into.old.items into.new.items)) }
     ensures end { IfOk result (λ n. n ≡ 0 → IsAtEnd (R.remaining reader.new)) }
 {
     let end = into.len();

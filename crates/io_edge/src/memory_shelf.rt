@@ -66,7 +66,8 @@ impl Shelf for MemoryShelf {
     }
 
     fn load(&mut self, alloc: Global, name: &str, into: &mut Vec<u8>) -> Result<(), LoadFault>
-        ensures loaded { OnOk result (IfSome (file_named self.old.files name.now) (λ bytes. into.new.items ≡ into.old.items ++ bytes)) }
+        ensures loaded { OnOk result
+            (IfSome (file_named self.old.files name.now) (λ bytes. into.new.items ≡ into.old.items ++ bytes)) }
         ensures unloaded { OnErr result (into.new.items ≡ into.old.items) }
         ensures ok { OnOk result (self.new ≡ record self.old { calls = one_more self.old.calls }) }
         ensures failed { IsErrOf result LoadFault.Failed → self.new ≡ record self.old {

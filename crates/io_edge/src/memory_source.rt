@@ -67,8 +67,10 @@ impl Source for MemorySource {
         ensures given { IfOk result (λ n. n ≡ given_next self.old (length into.old)) }
         ensures some { 1 ≤ self.old.piece }
         ensures moved { IfOk result (λ n. into.new ≡ take n self.old.left ++ drop n into.old) }
-        ensures ok { IfOk result (λ n. self.new ≡ record self.old { left = drop n self.old.left; calls = one_more self.old.calls }) }
-        ensures failed { OnErr result (self.new ≡ record self.old { calls = one_more self.old.calls; faults = one_more self.old.faults }) }
+        ensures ok { IfOk result (λ n.
+            self.new ≡ record self.old { left = drop n self.old.left; calls = one_more self.old.calls }) }
+        ensures failed { OnErr result
+            (self.new ≡ record self.old { calls = one_more self.old.calls; faults = one_more self.old.faults }) }
         ensures unchanged { OnErr result (into.new ≡ into.old) }
         ensures later { self.old.faults ≤ self.new.faults }
     {

@@ -55,7 +55,8 @@ pub trait Shelf {
         ensures counted { IsErrOf result LoadFault.Failed → Rose (faults self.old) (faults self.new) }
         ensures named { IsErrOf result LoadFault.Failed → failed self.new ≡ name.now }
         ensures ok { OnOk result ((faults self.new ≡ faults self.old) × (failed self.new ≡ failed self.old)) }
-        ensures memory { IsErrOf result LoadFault.Memory → (faults self.new ≡ faults self.old) × (failed self.new ≡ failed self.old) };
+        ensures memory { IsErrOf result LoadFault.Memory →
+            (faults self.new ≡ faults self.old) × (failed self.new ≡ failed self.old) };
 }
 
 /// Input, as a stream of bytes.

@@ -17,7 +17,8 @@ alike_step : (n m c : ℕ) → Alike n m → Alike (with_digit n c) (with_digit 
 alike_step n m c h = omega arith
 
 -- two numbers that are alike up to the most stay so with the same digits behind them
-pub alike_on : (n m : ℕ) (digits : List ℕ) → min n (2 ^ 32) ≡ min m (2 ^ 32) → min (fold with_digit n digits) (2 ^ 32) ≡ min (fold with_digit m digits) (2 ^ 32)
+pub alike_on : (n m : ℕ) (digits : List ℕ) → min n (2 ^ 32) ≡ min m (2 ^ 32)
+    → min (fold with_digit n digits) (2 ^ 32) ≡ min (fold with_digit m digits) (2 ^ 32)
 alike_on n m digits h = fold_along with_digit with_digit Alike alike_step n m digits h
 
 -- what is a number where there is a byte
@@ -26,7 +27,8 @@ is_number-some [] h = absurd (omega arith)
 is_number-some (c ∷ cs) h = refl
 
 -- the place of the first that passes
-pub position_found : (p : ℕ → Bool) (xs : List ℕ) (n : ℕ) → Some n ≡ position p xs → n + 1 ≡ min (position_or_len p xs + 1) (length xs)
+pub position_found : (p : ℕ → Bool) (xs : List ℕ) (n : ℕ) → Some n ≡ position p xs
+    → n + 1 ≡ min (position_or_len p xs + 1) (length xs)
 position_found p xs n h = grind (arith, nat_tests)
 
 pub position_missing : (p : ℕ → Bool) (xs : List ℕ) → None ≡ position p xs → length xs ≡ min (position_or_len p xs + 1) (length xs)

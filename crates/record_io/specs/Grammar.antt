@@ -7,7 +7,9 @@ use Rattle.a95_base.specs.Input.{is_whitespace, is_separator, is_number, number_
 abbrev pub IsGap : Bool → List ℕ → Type 0
 IsGap comma gap =
     IsTrue (list_all is_whitespace gap)
-    ⊎ (IsTrue comma × ((before after : List ℕ) × IsTrue (list_all is_whitespace before) × IsTrue (list_all is_whitespace after) × (gap ≡ before ++ 44 ∷ after)))
+    ⊎ (IsTrue comma
+    × ((before after : List ℕ) × IsTrue (list_all is_whitespace before) × IsTrue (list_all is_whitespace after)
+    × (gap ≡ before ++ 44 ∷ after)))
 
 -- the value of a number behind a sign or none, where it has 32 bits
 abbrev pub HasSign : List ℕ → ℕ → ℤ → Type 0

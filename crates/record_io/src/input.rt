@@ -1,6 +1,7 @@
 //! What READ finds next in the bytes of the input that are left.
 ghost use Rattle.std.specs.Prelude.{◌≡◌, ◌==◌, ◌≤◌, ◌^◌, min, length, position, true, false, MatchOption};
-ghost use Rattle.a95_base.specs.Input.{is_whitespace, is_separator, past_whitespace, past_comma, past_gap, word_of, is_number, number_of, positive_of, integer_of, next_value, record_length};
+ghost use Rattle.a95_base.specs.Input.{is_whitespace, is_separator, past_whitespace, past_comma, past_gap, word_of, is_number};
+ghost use Rattle.a95_base.specs.Input.{number_of, positive_of, integer_of, next_value, record_length};
 ghost use Rattle.record_io.specs.Looked.{reading};
 
 /// What stands next in the input.
@@ -140,7 +141,8 @@ const MOST: u64 = 1 << 32;
 
 // The number that digits write, or `MOST` where it is larger.
 fn parse_number(digits: &[u8]) -> Option<u64>
-    ensures { MatchOption result (is_number digits.now ≡ false) (λ n. (is_number digits.now ≡ true) × (n ≡ min (number_of digits.now) (2 ^ 32))) }
+    ensures { MatchOption result (is_number digits.now ≡ false)
+        (λ n. (is_number digits.now ≡ true) × (n ≡ min (number_of digits.now) (2 ^ 32))) }
 {
     if digits.is_empty() {
         return None;

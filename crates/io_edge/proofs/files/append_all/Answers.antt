@@ -6,9 +6,14 @@ use Rattle.io_edge.proofs.files.append_all.Goals as goal
 pub loop-reader-preserved : goal.loop-reader-preserved
 loop-reader-preserved g c =
     let remaining = g.R.Read.remaining in
+    let start = c.args.into.now.items in
+    let before = c.loop-reader.into.items in
+    let after = c.append_piece.new.into.items in
+    let front = c.loop-reader.invariant.front in
     record {
       longer = omega (arith, c.in-Ok.ensures.count);
-      front = starts_with_trans c.append_piece.new.into.items c.loop-reader.into.items c.args.into.now.items c.append_piece.ensures.front c.loop-reader.invariant.front;
-      taken = Consumes-more (remaining c.args.reader.now) (remaining c.loop-reader.reader) (remaining c.append_piece.new.reader) c.args.into.now.items c.loop-reader.into.items c.append_piece.new.into.items
-          c.loop-reader.invariant.front c.append_piece.ensures.front c.loop-reader.invariant.taken c.in-Ok.ensures.taken;
+      front = starts_with_trans after before start c.append_piece.ensures.front front;
+      taken =
+          Consumes-more (remaining c.args.reader.now) (remaining c.loop-reader.reader) (remaining c.append_piece.new.reader)
+          start before after front c.append_piece.ensures.front c.loop-reader.invariant.taken c.in-Ok.ensures.taken;
     }

@@ -12,5 +12,6 @@ returns-in-Ok-clause-taken g c =
     let new = c.truncate.new.self.items in
     let front = take c.in-Ok.count c.read.new.buf in
     let as_long : length (appended_bytes old new) ≡ length front = grind (arith, common_steps, places) in
-    let same : front ≡ appended_bytes old new = same_lists front (appended_bytes old new) (sym as_long) (λ k d h. grind (arith, places, common_steps)) in
+    let same : front ≡ appended_bytes old new =
+    same_lists front (appended_bytes old new) (sym as_long) (λ k d h. grind (arith, places, common_steps)) in
     subst (Consumes (remaining c.args.reader.now) (remaining c.read.new.self)) same c.in-Ok.ensures.bytes.0

@@ -15,7 +15,9 @@ loop-digit-preserved c =
     let more = drop (at + 1) digits in
     let is : is_digit digit ≡ true = sym c.is_ascii_digit.ensures.value ∙ c.if-not-is_ascii_digit.false in
     record {
-      digits = sym (at_drop_more (list_all is_digit) digits at 0 c.loop-digit-test.true ∙ ap (λ first. first && list_all is_digit more) is) ∙ c.loop-digit.invariant.digits;
+      digits =
+          sym (at_drop_more (list_all is_digit) digits at 0 c.loop-digit-test.true
+          ∙ ap (λ first. first && list_all is_digit more) is) ∙ c.loop-digit.invariant.digits;
       number =
           alike_on c.min-number.result (with_digit number digit) more (omega (arith, c.min-number.ensures, c.from.ensures))
           ∙ sym (at_drop_more (λ rest. min (fold with_digit number rest) (2 ^ 32)) digits at 0 c.loop-digit-test.true)

@@ -13,7 +13,8 @@ loop-at-preserved g c =
     record {
       within = omega (arith, c.in-Ok.ensures.bound);
       front = subst (Appends was is) (sym (take-add c.loop-at.at c.in-Ok.count bytes))
-          (Appends-trans was (contents c.loop-at.self.writer) is (take c.loop-at.at bytes) (take c.in-Ok.count (drop c.loop-at.at bytes))
+          (Appends-trans was (contents c.loop-at.self.writer) is (take c.loop-at.at bytes)
+          (take c.in-Ok.count (drop c.loop-at.at bytes))
           c.loop-at.invariant.front (rw take_rest at c.in-Ok.ensures.bytes));
       count = c.loop-at.invariant.count;
     }
