@@ -1,16 +1,14 @@
 -- Two pieces touch each other by their accesses alone.
-use Rattle.std.proofs.Common.{◌≡◌, ◌≢◌, ℕ, ◌+◌, ◌<◌, pos, zero, suc, Bool, true, false, List, [], ◌∷◌, Result, Ok, map, sum, get_or, set, refl, sym, ap, ◌∙◌, inl, inr, arith}
+use Rattle.std.proofs.Common.{◌≡◌, ◌≢◌, ℕ, ◌+◌, ◌<◌, pos, zero, suc, true, false, List, [], ◌∷◌, Result, Ok, sum, get_or, set, refl, sym, ap, ◌∙◌, inl, inr, arith}
 use Rattle.std.specs.Prelude.{IsTrue}
 use Rattle.std.proofs.lemmas.Bool.{false≢true}
 use Rattle.std.proofs.lemmas.List.{get_or-set_other}
-use Rattle.a95_base.specs.Lists.{Every, Pairwise, Member}
+use Rattle.a95_base.specs.Lists.{Every, Pairwise}
 use Rattle.a95_base.proofs.Lists.{Member-map, each_from_has, each_has, map_agree}
 use Rattle.rank_shape.specs.Shape.{IsPlace}
-use Rattle.rank_shape.specs.declared.distance.Entry.{Entry}
 use Rattle.rank_shape.specs.declared.distance.Entry.TheVariants as entry
 use Rattle.loop_order.specs.Apart.{IsApart}
-use Rattle.store_laws.specs.Loops.{IsQuiet, KeepsSound, Passes}
-use Rattle.store_laws.specs.Fusion.{Access, conflict, IsMeasured, AreMeasured, IsAside, AreAllOf, IsFusable}
+use Rattle.store_laws.specs.Fusion.{Access, conflict, IsMeasured, AreMeasured, AreAllOf}
 use Rattle.store_laws.proofs.FusionLaws.{accesses_fuse}
 use Rattle.store_rows.specs.Pieces.{Piece, turn_of, value_of, body_of, access_of, accesses_of, shifted, copied, added, extents, distances, always, Fusable}
 
@@ -46,8 +44,8 @@ pieces_touch first second = record {
             let after_second : List ℕ = set s (second.into j) (value_of second j s) in
             ap (λ v. let went : Result (List ℕ) ℕ = Ok (set after_second (first.into i) v) in went) (value_kept first i (second.into j) (value_of second j s) s read)
             ∙ ap (λ x. let went : Result (List ℕ) ℕ = Ok x in went) (set_commutes s (second.into j) (first.into i) (value_of second j s) (value_of first i s) (λ same. into (sym same)))
-            ∙ ap (λ v. let went : Result (List ℕ) ℕ = Ok (set (set s (first.into i) (value_of first i s)) (second.into j) v) in went) (sym (value_kept second j (first.into i) (value_of first i s) s stored))
-      }
+            ∙ ap (λ v. let went : Result (List ℕ) ℕ = Ok (set (set s (first.into i) (value_of first i s)) (second.into j) v) in went) (sym (value_kept second j (first.into i) (value_of first i s) s stored));
+      };
 }
 
 -- ---- distances
@@ -74,7 +72,7 @@ Told access other = IsTrue (conflict access other) → (place later : List ℕ) 
 each_told : (first second : Piece) → Every (λ access. Every (Told access) (accesses_of second)) (accesses_of first) → AreMeasured (accesses_of first) (accesses_of second) extents distances
 unfolding Told
 each_told first second told = record {
-  each = λ access other access_in other_in. each_has (Told access) (accesses_of second) other (each_has (λ a. Every (Told a) (accesses_of second)) (accesses_of first) access told access_in) other_in
+  each = λ access other access_in other_in. each_has (Told access) (accesses_of second) other (each_has (λ a. Every (Told a) (accesses_of second)) (accesses_of first) access told access_in) other_in;
 }
 
 pub measured_pieces : (first second : Piece) → AreMeasured (accesses_of first) (accesses_of second) extents distances → Fusable first second
@@ -91,31 +89,59 @@ never access other apart conflicts place later inside later_inside is = absurd (
 pub shifted_copied : AreMeasured (accesses_of shifted) (accesses_of copied) extents distances
 unfolding Told
 shifted_copied =
-    each_told shifted copied
-    ((never (access_of true shifted.into) (access_of true copied.into) (λ place later below later_below is. omega (arith, is, below)),
-    (λ c place later inside later_inside is. one_later place later inside later_inside (sym is), tt)),
-    ((λ c place later inside later_inside is. same_turn place later inside later_inside (omega (arith, is)),
-    (λ c. absurd (false≢true c), tt)), tt))
+    each_told shifted copied (
+      (
+        never (access_of true shifted.into) (access_of true copied.into) (λ place later below later_below is. omega (arith, is, below)),
+        (λ c place later inside later_inside is. one_later place later inside later_inside (sym is), tt),
+      ),
+      (
+        (
+          λ c place later inside later_inside is. same_turn place later inside later_inside (omega (arith, is)),
+          (λ c. absurd (false≢true c), tt),
+        ),
+        tt,
+      ),
+    )
 
 pub shifted_added : AreMeasured (accesses_of shifted) (accesses_of added) extents distances
 unfolding Told
 shifted_added =
-    each_told shifted added
-    ((never (access_of true shifted.into) (access_of true added.into) (λ place later below later_below is. omega (arith, is, below)),
-    (never (access_of true shifted.into) (access_of false (λ i. i + 4)) (λ place later below later_below is. omega (arith, is, below)),
-    (λ c place later inside later_inside is. same_turn place later inside later_inside (omega (arith, is)), tt))),
-    ((never (access_of false (λ i. i + 4)) (access_of true added.into) (λ place later below later_below is. omega (arith, is, below)),
-    (λ c. absurd (false≢true c), (λ c. absurd (false≢true c), tt))), tt))
+    each_told shifted added (
+      (
+        never (access_of true shifted.into) (access_of true added.into) (λ place later below later_below is. omega (arith, is, below)),
+        (
+          never (access_of true shifted.into) (access_of false (λ i. i + 4)) (λ place later below later_below is. omega (arith, is, below)),
+          (λ c place later inside later_inside is. same_turn place later inside later_inside (omega (arith, is)), tt),
+        ),
+      ),
+      (
+        (
+          never (access_of false (λ i. i + 4)) (access_of true added.into) (λ place later below later_below is. omega (arith, is, below)),
+          (λ c. absurd (false≢true c), (λ c. absurd (false≢true c), tt)),
+        ),
+        tt,
+      ),
+    )
 
 pub copied_added : AreMeasured (accesses_of copied) (accesses_of added) extents distances
 unfolding Told
 copied_added =
-    each_told copied added
-    ((never (access_of true copied.into) (access_of true added.into) (λ place later below later_below is. omega (arith, is, below)),
-    (λ c place later inside later_inside is. same_turn place later inside later_inside (omega (arith, is)),
-    (never (access_of true copied.into) (access_of false (λ i. i + 1)) (λ place later below later_below is. omega (arith, is, later_below)), tt))),
-    ((never (access_of false (λ i. i)) (access_of true added.into) (λ place later below later_below is. omega (arith, is, below)),
-    (λ c. absurd (false≢true c), (λ c. absurd (false≢true c), tt))), tt))
+    each_told copied added (
+      (
+        never (access_of true copied.into) (access_of true added.into) (λ place later below later_below is. omega (arith, is, below)),
+        (
+          λ c place later inside later_inside is. same_turn place later inside later_inside (omega (arith, is)),
+          (never (access_of true copied.into) (access_of false (λ i. i + 1)) (λ place later below later_below is. omega (arith, is, later_below)), tt),
+        ),
+      ),
+      (
+        (
+          never (access_of false (λ i. i)) (access_of true added.into) (λ place later below later_below is. omega (arith, is, below)),
+          (λ c. absurd (false≢true c), (λ c. absurd (false≢true c), tt)),
+        ),
+        tt,
+      ),
+    )
 
 pub shifted_copied_fuse : Fusable shifted copied
 shifted_copied_fuse = measured_pieces shifted copied shifted_copied

@@ -1,16 +1,14 @@
 -- The premises of the test behind the stores, met by a statement with marks.
-use Rattle.std.proofs.Common.{◌≡◌, ◌≢◌, ◌⊎◌, ◌==◌, ◌||◌, ℕ, zero, suc, ◌+◌, ◌<◌, Bool, true, false, List, [], ◌∷◌, Ok, get_or, set, refl, sym, ap, ◌∙◌, inl, inr, arith}
-use Rattle.std.specs.Prelude.{IsTrue, min}
+use Rattle.std.proofs.Common.{◌≡◌, ◌≢◌, ◌⊎◌, ◌==◌, ◌||◌, ℕ, zero, suc, ◌+◌, ◌<◌, Bool, true, false, List, Ok, get_or, refl, sym, ap, ◌∙◌, inl, inr, arith}
+use Rattle.std.specs.Prelude.{IsTrue}
 use Rattle.std.proofs.Math.Path.{fun_ext}
 use Rattle.std.proofs.lemmas.Bool.{cases_eq, eq-eqb, ne_eqb, false≢true}
 use Rattle.std.proofs.lemmas.List.{get_or-set_other}
-use Rattle.a95_base.specs.Lists.{Every}
 use Rattle.a95_base.proofs.Lists.{Every-all}
-use Rattle.rank_shape.specs.Shape.{IsPlace}
 use Rattle.rank_shape.specs.Walk.{tour}
-use Rattle.store_laws.specs.Store.{Evaluated, Statement, Keeps, Ignores, IsStill, StopsAlike}
-use Rattle.store_laws.specs.Legal.{IsTold, KeepsPlaces}
-use Rattle.store_laws.specs.ManyOne.{stands_twice, Marks, KeepsMarks, IsUnmarked, TellsTwice, CommutesApart, IsFreeOnce}
+use Rattle.store_laws.specs.Store.{Evaluated, Keeps, Ignores}
+use Rattle.store_laws.specs.Legal.{IsTold}
+use Rattle.store_laws.specs.ManyOne.{KeepsMarks, TellsTwice, CommutesApart}
 use Rattle.store_laws.proofs.ManyOneLaws.{marks_tell}
 use Rattle.store_laws.proofs.TemporaryLaws.{ok_is}
 use Rattle.store_rows.specs.Pieces.{turn_of, extents, backwards, distances}
@@ -45,7 +43,7 @@ module _ (p : ℕ → ℕ) where
     marked = λ v s other sound may. or_once (other == p (turn_of turn)) (s.marked other);
     again = λ v s sound may. or_again (s.marked (p (turn_of turn))) s.again;
     left_marked = λ s e other sound is. ap (λ x. x.marked other) (after_is turn s e is);
-    left_twice = λ s e sound is. ap (λ x. x.again) (after_is turn s e is)
+    left_twice = λ s e sound is. ap (λ x. x.again) (after_is turn s e is);
   }
 
   tells : (turns : List (List ℕ)) → TellsTwice (scattered p) (element_of p) (λ s. s.again) turns start
@@ -60,7 +58,7 @@ module _ (p : ℕ → ℕ) where
   ignores_at turn later apart = record {
     same = λ v s sound may.
         let after : Memory = (scattered p).store turn v s in
-        ap (λ x. Ok (record { value = x + 10; after = after })) (get_or-set_other s.cells (p (turn_of turn)) (turn_of later) v 0 (λ same. apart (sym same)))
+        ap (λ x. Ok (record { value = x + 10; after = after })) (get_or-set_other s.cells (p (turn_of turn)) (turn_of later) v 0 (λ same. apart (sym same)));
   }
 
   told_by : ((i : ℕ) → i < 3 → (p i ≡ i + 1) ⊎ (p i ≡ i)) → IsTold (scattered p) (λ s. IsTrue true) (λ turn v. IsTrue true) extents distances
@@ -73,7 +71,7 @@ module _ (p : ℕ → ℕ) where
                 | inl one ↦ let m = one_later stores reads stores_in reads_in (sym same ∙ one) in (m.distance, (m.listed, m.apart))
                 | inr here ↦ let m = same_turn stores reads stores_in reads_in (sym same ∙ here) in (m.distance, (m.listed, m.apart))
               ])
-        ]
+        ];
   }
 
   commutes_at : (turn other : List ℕ) → CommutesApart (scattered p) (element_of p) (λ s. IsTrue true) (λ turn v. IsTrue true) turn other
@@ -85,7 +83,7 @@ module _ (p : ℕ → ℕ) where
         memory_same ((scattered p).store turn v ((scattered p).store other w s)) ((scattered p).store other w ((scattered p).store turn v s))
         (set_commutes s.cells j i w v (λ same. apart (sym same)))
         (fun_ext (λ e. or_swapped (e == i) (e == j) (s.marked e)))
-        (again_same i j s apart)
+        (again_same i j s apart);
   }
     where
       again_same : (i j : ℕ) (s : Memory) → i ≢ j → (((i == j) || s.marked i) || (s.marked j || s.again)) ≡ (((j == i) || s.marked j) || (s.marked i || s.again))
@@ -101,9 +99,9 @@ module _ (p : ℕ → ℕ) where
     free = record {
       still = λ place inside. record { after = λ s e sound is. after_is place s e is };
       commutes = λ place other inside other_inside apart. commutes_at place other;
-      stops_alike = λ place other inside other_inside. record { same = λ f g f_is g_is. cc }
+      stops_alike = λ place other inside other_inside. record { same = λ f g f_is g_is. cc };
     };
-    tells = tells (tour backwards extents)
+    tells = tells (tour backwards extents);
   }
 
 pub once_premises : Premises once

@@ -1,11 +1,10 @@
 -- Small nests with numbers: `a(2:4) = b(1:3) + 10`, `b(1:3) = a(1:3)` and `c(1:3) = b(1:3) + a(2:4)`. The memory is a list
 -- of cells, in which `a` has the places 0 to 3, `b` those from 4 to 6 and `c` those from 7 to 9.
-use Rattle.std.specs.Prelude.{◌≡◌, ℕ, ◌+◌, pos, Bool, true, false, IsTrue, List, [], ◌∷◌, Result, Ok, map, sum, slice_index, slice_index_or, slice_set}
-use Rattle.a95_base.specs.Lists.{Pairwise}
+use Rattle.std.specs.Prelude.{ℕ, ◌+◌, pos, Bool, true, false, IsTrue, List, [], ◌∷◌, Result, Ok, map, sum, slice_index, slice_index_or, slice_set}
 use Rattle.rank_shape.specs.Order.{Level}
 use Rattle.rank_shape.specs.declared.distance.Entry.{Entry}
 use Rattle.rank_shape.specs.declared.distance.Entry.TheVariants as entry
-use Rattle.store_laws.specs.Store.{Evaluated, Statement, Temporary}
+use Rattle.store_laws.specs.Store.{Statement, Temporary}
 use Rattle.store_laws.specs.Fusion.{Access, IsFusable}
 
 -- a turn adds up a number and some cells, and stores the sum into a cell
@@ -71,7 +70,7 @@ Fusable first second = IsFusable (body_of first) (body_of second) (λ s. IsTrue 
 abbrev pub moved : Statement (List ℕ) (List ℕ) ℕ ℕ
 moved = record {
   evaluate = λ turn s. Ok (record { value = slice_index s (turn_of turn) + 10; after = s });
-  store = λ turn v s. slice_set s (turn_of turn + 1) v
+  store = λ turn v s. slice_set s (turn_of turn + 1) v;
 }
 
 -- the temporary has the places from 4 to 6

@@ -1,5 +1,5 @@
 -- `a(p) = a(1:3) + 10` with a vector subscript `p`, whose nest marks each element that it stores into.
-use Rattle.std.specs.Prelude.{◌≡◌, ℕ, ◌+◌, ◌==◌, ◌||◌, Bool, true, false, IsTrue, List, [], ◌∷◌, Result, Ok, Err, min, slice_index, slice_set}
+use Rattle.std.specs.Prelude.{ℕ, ◌+◌, ◌==◌, ◌||◌, Bool, true, false, IsTrue, List, [], ◌∷◌, Result, Ok, Err, min, slice_index, slice_set}
 use Rattle.rank_shape.specs.Walk.{tour}
 use Rattle.store_laws.specs.Store.{Statement}
 use Rattle.store_laws.specs.Legal.{IsTold, KeepsPlaces}
@@ -17,8 +17,8 @@ scattered p = record {
   store = λ turn v s. record {
     cells = slice_set s.cells (p (turn_of turn)) v;
     marked = λ element. (element == p (turn_of turn)) || s.marked element;
-    again = s.marked (p (turn_of turn)) || s.again
-  }
+    again = s.marked (p (turn_of turn)) || s.again;
+  };
 }
 
 abbrev pub element_of : (ℕ → ℕ) → List ℕ → ℕ → List ℕ
