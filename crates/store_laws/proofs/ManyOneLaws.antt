@@ -15,11 +15,11 @@ use Rattle.rank_shape.proofs.Orders.{element_is_order}
 use Rattle.rank_shape.proofs.Reorders.{order_whole}
 use Rattle.rank_shape.specs.declared.distance.Entry.{Entry}
 use Rattle.loop_order.specs.Legal.{IsLegal}
-use Rattle.store_laws.specs.Store.{and_then, Evaluated, Statement, values, store_all, deferred, Keeps, Ignores, IsStill, StopsAlike}
+use Rattle.store_laws.specs.Store.{and_then, Evaluated, Statement, values, store_all, deferred, Keeps, Ignores, IsStill, StopsAlike, Temporary, filling, store_kept, IsKeptApart, KeepsOther}
 use Rattle.store_laws.specs.Legal.{IsTold, KeepsPlaces}
-use Rattle.store_laws.specs.ManyOne.{is_among, stands_twice, elements_of, unless, tested, tested_behind, TellsTwice, Marks, KeepsMarks, IsUnmarked, CommutesApart, IsFreeOnce}
+use Rattle.store_laws.specs.ManyOne.{is_among, stands_twice, elements_of, unless, tested, tested_behind, tested_between, TellsTwice, Marks, KeepsMarks, IsUnmarked, CommutesApart, IsFreeOnce}
 use Rattle.store_laws.proofs.StoreLaws.{then_then, then_same, either_order, direct_deferred}
-use Rattle.store_laws.proofs.TemporaryLaws.{MayAll, reached, ok_is, values_known}
+use Rattle.store_laws.proofs.TemporaryLaws.{MayAll, reached, ok_is, values_same, values_known, all_kept}
 use Rattle.store_laws.proofs.LegalLaws.{join_back, places_keep, legal_direct}
 
 -- ---- elements in another order
@@ -263,3 +263,24 @@ module _ {T S V F : Type 0} (statement : Statement T S V F) (elements : T → V 
         ∙ ap (λ b. stands_twice stored || b) none.twice
         ∙ or_false (stands_twice stored);
   }
+
+-- ---- the test between two loops
+
+unless_then : {S F : Type 0} (b : Bool) (fault : F) (s : S) (go : S → S) → and_then (unless b fault s) (λ x. Ok (go x)) ≡ unless b fault (go s)
+unless_then true fault s go = refl
+unless_then false fault s go = refl
+
+module _ {T S V F : Type 0} (statement : Statement T S V F) (temporary : Temporary T S V) (elements : T → V → List ℕ) (fault : F) (Sound : S → Type 0) (May : T → V → Type 0) where
+  pub between_is_before : (twice : S → Bool) (apart : IsKeptApart statement temporary Sound May) (turns : List T) (s : S) → Every (Keeps statement Sound May) turns → Every (Keeps (filling statement temporary) Sound May) turns → Pairwise (Ignores (filling statement temporary) Sound May) turns → Pairwise (KeepsOther temporary Sound May) turns → TellsTwice (filling statement temporary) elements twice turns s → Sound s → tested_between statement temporary twice fault turns s ≡ and_then (values statement turns s) (λ es. unless (stands_twice (elements_of elements turns es.value)) fault (store_all (filling statement temporary) turns es.value (store_all statement turns es.value es.after)))
+  between_is_before twice apart turns s keeps fills ignores others tells sound =
+      let last : S → Result S F = λ filled. and_then (unless (twice filled) fault filled) (λ passed. Ok (store_kept statement temporary turns passed)) in
+      let put : Evaluated (List V) S → Result S F = λ es. Ok (store_all (filling statement temporary) turns es.value es.after) in
+      ap (λ r. and_then r last) (direct_deferred (filling statement temporary) Sound May turns s fills ignores sound ∙ ap (λ r. and_then r put) (values_same statement temporary turns s))
+      ∙ then_then (values statement turns s) put last
+      ∙ then_same (values statement turns s) (λ es. and_then (put es) last) (λ es. unless (stands_twice (elements_of elements turns es.value)) fault (store_all (filling statement temporary) turns es.value (store_all statement turns es.value es.after)))
+      (λ es is.
+      let known = values_known statement Sound May turns s es keeps sound is in
+      let filled : S = store_all (filling statement temporary) turns es.value es.after in
+      unless_then (twice filled) fault filled (store_kept statement temporary turns)
+      ∙ ap (λ b. unless b fault (store_kept statement temporary turns filled)) (tells.told es (values_same statement temporary turns s ∙ is))
+      ∙ ap (unless (stands_twice (elements_of elements turns es.value)) fault) (all_kept statement temporary Sound May apart turns es.value es.after keeps fills others known.0 known.1))

@@ -68,7 +68,7 @@ module _ {T S V F : Type 0} (statement : Statement T S V F) (temporary : Tempora
       ap (store_all statement turns vs) (apart.aside t turn w v s sound may.0 may_v)
       ∙ keep_past apart turn v turns vs (statement.store t w s) keeps.1 may.1 (keeps.0.stored w s sound may.0) may_v
 
-  all_kept : (apart : IsKeptApart statement temporary Sound May) (turns : List T) (vs : List V) (s : S) → Every (Keeps statement Sound May) turns → Every (Keeps (filling statement temporary) Sound May) turns → Pairwise (KeepsOther temporary Sound May) turns → MayAll May turns vs → Sound s → store_kept statement temporary turns (store_all (filling statement temporary) turns vs s) ≡ store_all (filling statement temporary) turns vs (store_all statement turns vs s)
+  pub all_kept : (apart : IsKeptApart statement temporary Sound May) (turns : List T) (vs : List V) (s : S) → Every (Keeps statement Sound May) turns → Every (Keeps (filling statement temporary) Sound May) turns → Pairwise (KeepsOther temporary Sound May) turns → MayAll May turns vs → Sound s → store_kept statement temporary turns (store_all (filling statement temporary) turns vs s) ≡ store_all (filling statement temporary) turns vs (store_all statement turns vs s)
   all_kept apart [] [] s keeps fills others may sound = refl
   all_kept apart [] (v ∷ vs) s keeps fills others may sound = absurd may
   all_kept apart (t ∷ turns) [] s keeps fills others may sound = absurd may

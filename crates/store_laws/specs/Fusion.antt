@@ -69,6 +69,17 @@ FusableByAccesses S F =
     AreAllOf firsts seconds first second (λ s. IsTrue (sound s)) extents →
     IsFusable first second (λ s. IsTrue (sound s)) extents distances
 
+-- the same as one law: the distances are those of each pair of accesses that conflict
+abbrev pub FusedByAccesses : (S F : Type 0) → List Level → List ℕ → List (List Entry) → Type 0
+FusedByAccesses S F order extents distances =
+    (first second : List ℕ → S → Result S F) (sound : S → Bool) (firsts seconds : List Access) (s : S) →
+    ((place : List ℕ) → IsPlace extents place → IsQuiet first (λ s. IsTrue (sound s)) place) →
+    ((place : List ℕ) → IsPlace extents place → KeepsSound (second place) (λ s. IsTrue (sound s))) →
+    AreMeasured firsts seconds extents distances →
+    AreAllOf firsts seconds first second (λ s. IsTrue (sound s)) extents →
+    IsTrue (sound s) →
+    AreOneNest first second order extents s
+
 -- ---- groups of any number
 
 -- all bodies of a group, one after the other in one turn

@@ -6,7 +6,7 @@ use Rattle.rank_shape.specs.Order.{Level, element_order_of}
 use Rattle.rank_shape.specs.Shape.{IsPlace}
 use Rattle.rank_shape.specs.Walk.{tour}
 use Rattle.rank_shape.specs.declared.distance.Entry.{Entry}
-use Rattle.store_laws.specs.Store.{and_then, Evaluated, Statement, direct, values, store_all, Keeps, Ignores, IsStill, StopsAlike}
+use Rattle.store_laws.specs.Store.{and_then, Evaluated, Statement, direct, values, store_all, Keeps, Ignores, IsStill, StopsAlike, Temporary, filling, store_kept, IsKeptApart, KeepsOther}
 use Rattle.store_laws.specs.Legal.{IsTold, KeepsPlaces}
 
 -- an element is among those
@@ -37,6 +37,12 @@ tested statement elements fault turns s =
 -- each value is stored at once, and the test comes last
 abbrev pub tested_behind : {T S V F : Type 0} → Statement T S V F → (S → Bool) → F → List T → S → Result S F
 tested_behind statement twice fault turns s = and_then (direct statement turns s) (λ stored. unless (twice stored) fault stored)
+
+-- the first of two loops keeps each value in the temporary, the test comes next, and the second loop stores from it
+abbrev pub tested_between : {T S V F : Type 0} → Statement T S V F → Temporary T S V → (S → Bool) → F → List T → S → Result S F
+tested_between statement temporary twice fault turns s =
+    and_then (direct (filling statement temporary) turns s)
+    (λ filled. and_then (unless (twice filled) fault filled) (λ passed. Ok (store_kept statement temporary turns passed)))
 
 -- what the state tells behind all stores is whether one of the elements stood twice
 pub record TellsTwice {T S V F : Type 0} (statement : Statement T S V F) (elements : T → V → List ℕ) (twice : S → Bool) (turns : List T) (s : S) : Type 0 where
@@ -100,3 +106,19 @@ TestedBehindInLegalOrder S V F rank order extents distances =
     TellsTwice statement elements twice (tour order extents) s →
     IsTrue (sound s) →
     tested_behind statement twice fault (tour order extents) s ≡ tested statement elements fault (tour (element_order_of rank) extents) s
+
+-- ---- the test between two loops
+
+abbrev pub TestedBetween : (T S V F : Type 0) → Type 0
+TestedBetween T S V F =
+    (statement : Statement T S V F) (temporary : Temporary T S V) (elements : T → V → List ℕ) (twice : S → Bool) (fault : F) (sound : S → Bool) (may : T → V → Bool) (turns : List T) (s : S) →
+    IsKeptApart statement temporary (λ s. IsTrue (sound s)) (λ t v. IsTrue (may t v)) →
+    Every (Keeps statement (λ s. IsTrue (sound s)) (λ t v. IsTrue (may t v))) turns →
+    Every (Keeps (filling statement temporary) (λ s. IsTrue (sound s)) (λ t v. IsTrue (may t v))) turns →
+    Pairwise (Ignores (filling statement temporary) (λ s. IsTrue (sound s)) (λ t v. IsTrue (may t v))) turns →
+    Pairwise (KeepsOther temporary (λ s. IsTrue (sound s)) (λ t v. IsTrue (may t v))) turns →
+    TellsTwice (filling statement temporary) elements twice turns s →
+    IsTrue (sound s) →
+    tested_between statement temporary twice fault turns s
+    ≡ and_then (values statement turns s)
+    (λ es. unless (stands_twice (elements_of elements turns es.value)) fault (store_all (filling statement temporary) turns es.value (store_all statement turns es.value es.after)))

@@ -3,23 +3,25 @@
 
 ghost use Rattle.loop_order.specs.Legal.{IsLegal, distances_of, turned};
 ghost use Rattle.store_laws.specs.Bodies.{DirectIsRun, DeferredIsTwoRuns, ThroughIsTwoRuns, BodyIsQuiet, BodyKeepsSound, BodiesPass};
-ghost use Rattle.store_laws.specs.Fusion.{FusedByDistances, FusableByAccesses, GroupIsQuiet, GroupKeepsSound, GroupLetsPass, GroupPasses, GroupIsOneLoop, GroupIsOneNest};
+ghost use Rattle.store_laws.specs.Fusion.{FusedByDistances, FusedByAccesses, FusableByAccesses, GroupIsQuiet, GroupKeepsSound, GroupLetsPass, GroupPasses, GroupIsOneLoop, GroupIsOneNest};
 
 use rank_shape::{Dist, Order, Shape};
 
 /// Fusion by distances: two nests over one walk, the second after the first, are the one nest with both bodies, where the
 /// first never stops and each distance from the first to the second has zeros alone, or its first entry that isn't a known 0
-/// is known, positive in a forward loop and negative in a reversed one.
+/// is known, positive in a forward loop and negative in a reversed one. The distances are those of turns that may not change
+/// places (`by_turns`), or of each pair of accesses to one variable, one of them a store (`by_accesses`).
 pub fn nests_made_one<S, F, const R: usize>(shape: &Shape<R>, order: &Order<R>, dists: &[Dist<R>])
     requires { IsLegal (turned order.now) (distances_of R dists.now) }
-    ensures { FusedByDistances S F order.now shape.now (distances_of R dists.now) }
+    ensures by_turns { FusedByDistances S F order.now shape.now (distances_of R dists.now) }
+    ensures by_accesses { FusedByAccesses S F order.now shape.now (distances_of R dists.now) }
 {
     shape.known();
     order.known();
 }
 
-/// Where two bodies touch each other by their accesses alone, the distances of those pairs suffice that are of one variable,
-/// one of them a store.
+/// Where two bodies touch each other by their accesses alone, it suffices to measure each pair of accesses to one variable,
+/// one of them a store. So it is with each two of a group.
 pub fn fusable_by_accesses<S, F>()
     ensures { FusableByAccesses S F }
 {}

@@ -26,7 +26,9 @@ pub use fusion::{
     fusable_by_accesses, group_is_nest, group_made_one, nests_made_one, nests_of_group_made_one,
     statement_body, statement_is_runs,
 };
-pub use many_one::{marks_tell, test_behind_in_legal_order, test_behind_stores};
+pub use many_one::{
+    marks_tell, test_behind_in_legal_order, test_behind_stores, test_between_loops,
+};
 pub use mask::mask_in_nest;
 
 /// Where no later turn looks at what an earlier one stored, a store at once is a store after all evaluations, ends that come

@@ -2,7 +2,7 @@
 //! `specs/ManyOne.antt`.
 
 ghost use Rattle.loop_order.specs.Legal.{IsLegal, distances_of};
-ghost use Rattle.store_laws.specs.ManyOne.{TestedBehind, TestedBehindInLegalOrder, MarksTell};
+ghost use Rattle.store_laws.specs.ManyOne.{TestedBehind, TestedBehindInLegalOrder, TestedBetween, MarksTell};
 
 use rank_shape::{Dist, Order, Shape};
 
@@ -25,6 +25,11 @@ pub fn test_behind_in_legal_order<S, V, F, const R: usize>(
     shape.known();
     order.known();
 }
+
+/// Through a temporary the test may come between the two loops; besides that, the temporary then has the values.
+pub fn test_between_loops<T, S, V, F>()
+    ensures { TestedBetween T S V F }
+{}
 
 /// A mark for each element that is stored into, and one more that tells of an element marked again, tell behind all stores
 /// whether one of the elements stands twice.
