@@ -1,4 +1,4 @@
--- `WHERE (10 / m > 0) a = 100 / d` over three elements. The memory is a list of cells, in which `a` has the places 0 to 2,
+-- `where (10 / m > 0) a = 100 / d` over three elements. The memory is a list of cells, in which `a` has the places 0 to 2,
 -- `m` those from 3 to 5 and `d` those from 6 to 8; in place 9 calls are counted.
 use Rattle.std.specs.Prelude.{ℕ, ◌+◌, ◌/◌, ◌==◌, true, not, IsTrue, if◌then◌else◌, List, [], ◌∷◌, Result, Ok, Err, slice_index, slice_set}
 use Rattle.a95_base.specs.Lists.{Every, Pairwise}

@@ -5,7 +5,7 @@ ghost use Rattle.store_laws.specs.Masked.{guarded, masked};
 ghost use Rattle.store_laws.specs.Store.{deferred, values};
 ghost use Rattle.store_rows.specs.Where.{Premises, QuietPremises, called, counting, nonzero, passing, positive, shared_out, stopping, turns};
 
-/// `WHERE (10 / m > 0) a = 100 / d`: the division by 0 under a false mask doesn't happen. Where a value and a later mask
+/// `where (10 / m > 0) a = 100 / d`: the division by 0 under a false mask doesn't happen. Where a value and a later mask
 /// would both stop the run, the nest stops at the value, and the mask before all values stops first: the same, if both stop
 /// alike, and else not.
 #[tactic(auto, using(crate::proofs::WhereLaws::premises_at))]

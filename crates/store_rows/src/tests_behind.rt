@@ -9,8 +9,8 @@ ghost use Rattle.store_laws.specs.Store.{direct};
 ghost use Rattle.store_rows.specs.Pieces.{backwards, distances, extents};
 ghost use Rattle.store_rows.specs.Scatter.{Premises, element_of, once, scattered, seen, start, twice};
 
-/// `a(p) = a(1:3) + 10` with `p` the places 1, 2 and 3 (from 0): a loop that runs backwards may store at once, and the test
-/// behind it finds nothing. Forwards, stores at once would change what later turns read.
+/// `forall (i = 1:3) a(p(i)) = a(i) + 10`, where `p` gives the places 1, 2 and 3, counted from 0: a loop that runs backwards
+/// may store at once, and the test behind it finds nothing. Forwards, stores at once would change what later turns read.
 #[tactic(auto, using(crate::proofs::ScatterLaws::once_premises))]
 pub fn one_one()
     ensures premises { Premises once }
@@ -20,7 +20,7 @@ pub fn one_one()
     ensures forwards { seen (direct (scattered once) (tour (element_order_of 1) extents) start) ≡ Ok (1 ∷ 11 ∷ 21 ∷ 31 ∷ []) }
 {}
 
-/// With `p` the places 1, 2 and 2, both end with the fault. What the loop has stored by then depends on its direction, and
+/// Where `p` gives the places 1, 2 and 2, both end with the fault. What the loop has stored by then depends on its direction, and
 /// nobody sees it.
 #[tactic(auto, using(crate::proofs::ScatterLaws::twice_premises))]
 pub fn many_one()
