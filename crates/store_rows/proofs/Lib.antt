@@ -1,3 +1,4 @@
+pub mod BetweenLaws
 pub mod PieceLaws
 pub mod ScatterLaws
 pub mod WhereLaws

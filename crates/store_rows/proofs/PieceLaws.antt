@@ -1,5 +1,5 @@
 -- Two pieces touch each other by their accesses alone.
-use Rattle.std.proofs.Common.{◌≡◌, ◌≢◌, ℕ, ◌+◌, ◌<◌, pos, zero, suc, true, false, List, [], ◌∷◌, Result, Ok, sum, get_or, set, refl, sym, ap, ◌∙◌, inl, inr, arith}
+use Rattle.std.proofs.Common.{◌≡◌, ◌≢◌, ℕ, ◌+◌, ◌<◌, pos, zero, suc, true, false, List, [], ◌∷◌, Ok, sum, get_or, set, refl, sym, ap, ◌∙◌, inl, inr, arith}
 use Rattle.std.specs.Prelude.{IsTrue}
 use Rattle.std.proofs.lemmas.Bool.{false≢true}
 use Rattle.std.proofs.lemmas.List.{get_or-set_other}
@@ -10,7 +10,9 @@ use Rattle.rank_shape.specs.declared.distance.Entry.TheVariants as entry
 use Rattle.loop_order.specs.Apart.{IsApart}
 use Rattle.store_laws.specs.Fusion.{Access, conflict, IsMeasured, AreMeasured, AreAllOf}
 use Rattle.store_laws.proofs.FusionLaws.{accesses_fuse}
-use Rattle.store_rows.specs.Pieces.{Piece, turn_of, value_of, body_of, access_of, accesses_of, shifted, copied, added, extents, distances, always, Fusable}
+use Rattle.store_laws.specs.Store.{Keeps}
+use Rattle.store_laws.proofs.BodyLaws.{bodies_pass}
+use Rattle.store_rows.specs.Pieces.{TurnsApart, statement_of, Piece, turn_of, value_of, body_of, access_of, accesses_of, shifted, copied, added, extents, distances, always, Fusable}
 
 pub set_commutes : (cells : List ℕ) (i j a b : ℕ) → i ≢ j → set (set cells i a) j b ≡ set (set cells j b) i a
 set_commutes [] i j a b apart = refl
@@ -27,26 +29,36 @@ value_kept piece i k v cells apart =
     (each_from_has (λ cell. get_or (set cells k v) (cell i) 0 ≡ get_or cells (cell i) 0) piece.from
     (λ cell among. get_or-set_other cells k (cell i) v 0 (each_has (λ c. c i ≢ k) piece.from cell apart among))))
 
+-- turns that store into different cells, and read none that the other stores into
+turns_are_apart : (first second : Piece) (place other : List ℕ) → first.into (turn_of place) ≢ second.into (turn_of other) → Every (λ cell. cell (turn_of place) ≢ second.into (turn_of other)) first.from → Every (λ cell. cell (turn_of other) ≢ first.into (turn_of place)) second.from → TurnsApart first second other place
+turns_are_apart first second place other into read stored =
+    let i : ℕ = turn_of place in
+    let j : ℕ = turn_of other in
+    record {
+      evaluated = λ s sound. refl;
+      ignores = λ w s sound may. ap (λ v. Ok (record { value = v; after = set s (first.into i) w })) (value_kept second j (first.into i) w s stored);
+      ignored = λ v s sound may. ap (λ w. Ok (record { value = w; after = set s (second.into j) v })) (value_kept first i (second.into j) v s read);
+      commutes = λ v w s sound may might. set_commutes s (first.into i) (second.into j) w v into;
+    }
+
+keeps_at : (piece : Piece) (turn : List ℕ) → Keeps (statement_of piece) (λ s. IsTrue (always s)) (λ turn v. IsTrue true) turn
+keeps_at piece turn = record { evaluated = λ s e sound is. (refl, refl); stored = λ v s sound may. refl }
+
 pub pieces_touch : (first second : Piece) → AreAllOf (accesses_of first) (accesses_of second) (body_of first) (body_of second) (λ s. IsTrue (always s)) extents
 pieces_touch first second = record {
   passes = λ place other place_in other_in aside.
-      let i : ℕ = turn_of place in
-      let j : ℕ = turn_of other in
-      let into : first.into i ≢ second.into j = aside.apart (access_of true first.into) (access_of true second.into) (inl refl) (inl refl) refl in
-      let read : Every (λ cell. cell i ≢ second.into j) first.from =
-      each_from_has (λ cell. cell i ≢ second.into j) first.from
-      (λ cell among. aside.apart (access_of false cell) (access_of true second.into) (inr (Member-map (access_of false) first.from cell among)) (inl refl) refl) in
-      let stored : Every (λ cell. cell j ≢ first.into i) second.from =
-      each_from_has (λ cell. cell j ≢ first.into i) second.from
-      (λ cell among same. aside.apart (access_of true first.into) (access_of false cell) (inl refl) (inr (Member-map (access_of false) second.from cell among)) refl (sym same)) in
-      record {
-        same = λ s sound.
-            let after_second : List ℕ = set s (second.into j) (value_of second j s) in
-            ap (λ v. let went : Result (List ℕ) ℕ = Ok (set after_second (first.into i) v) in went) (value_kept first i (second.into j) (value_of second j s) s read)
-            ∙ ap (λ x. let went : Result (List ℕ) ℕ = Ok x in went) (set_commutes s (second.into j) (first.into i) (value_of second j s) (value_of first i s) (λ same. into (sym same)))
-            ∙ ap (λ v. let went : Result (List ℕ) ℕ = Ok (set (set s (first.into i) (value_of first i s)) (second.into j) v) in went) (sym (value_kept second j (first.into i) (value_of first i s) s stored));
-      };
+      bodies_pass (statement_of second) (statement_of first) (λ s. IsTrue (always s)) (λ turn v. IsTrue true) (λ turn v. IsTrue true) other place (keeps_at second other) (keeps_at first place)
+      (turns_are_apart first second place other
+      (aside.apart (access_of true first.into) (access_of true second.into) (inl refl) (inl refl) refl)
+      (each_from_has (λ cell. cell (turn_of place) ≢ second.into (turn_of other)) first.from
+      (λ cell among. aside.apart (access_of false cell) (access_of true second.into) (inr (Member-map (access_of false) first.from cell among)) (inl refl) refl))
+      (each_from_has (λ cell. cell (turn_of other) ≢ first.into (turn_of place)) second.from
+      (λ cell among same. aside.apart (access_of true first.into) (access_of false cell) (inl refl) (inr (Member-map (access_of false) second.from cell among)) refl (sym same))));
 }
+
+-- the last turn of the first and the first turn of the second
+pub last_and_first : TurnsApart shifted copied (0 ∷ []) (2 ∷ [])
+last_and_first = turns_are_apart shifted copied (2 ∷ []) (0 ∷ []) (λ is. omega (arith, is)) ((λ is. omega (arith, is)), tt) ((λ is. omega (arith, is)), tt)
 
 -- ---- distances
 

@@ -18,10 +18,10 @@ use Rattle.store_rows.proofs.PieceLaws.{set_commutes, turn_below, one_later, sam
 or_swapped : (a b c : Bool) → (a || (b || c)) ≡ (b || (a || c))
 or_swapped a b c = grind arith
 
-or_once : (a b : Bool) → (a || b) ≡ ((a || false) || b)
+pub or_once : (a b : Bool) → (a || b) ≡ ((a || false) || b)
 or_once a b = grind arith
 
-or_again : (a b : Bool) → (a || b) ≡ ((a || false) || (false || b))
+pub or_again : (a b : Bool) → (a || b) ≡ ((a || false) || (false || b))
 or_again a b = grind arith
 
 memory_same : (one other : Memory) → one.cells ≡ other.cells → one.marked ≡ other.marked → one.again ≡ other.again → one ≡ other
@@ -104,14 +104,17 @@ module _ (p : ℕ → ℕ) where
     tells = tells (tour backwards extents);
   }
 
+pub once_near : (i : ℕ) → i < 3 → (once i ≡ i + 1) ⊎ (once i ≡ i)
+once_near i below = inl refl
+
+pub twice_near : (i : ℕ) → i < 3 → (twice i ≡ i + 1) ⊎ (twice i ≡ i)
+twice_near zero below = inl refl
+twice_near (suc zero) below = inl refl
+twice_near (suc (suc zero)) below = inr refl
+twice_near (suc (suc (suc i))) below = absurd (omega (arith, below))
+
 pub once_premises : Premises once
-once_premises = premises_of once (λ i below. inl refl)
+once_premises = premises_of once once_near
 
 pub twice_premises : Premises twice
-twice_premises = premises_of twice near
-  where
-    near : (i : ℕ) → i < 3 → (twice i ≡ i + 1) ⊎ (twice i ≡ i)
-    near zero below = inl refl
-    near (suc zero) below = inl refl
-    near (suc (suc zero)) below = inr refl
-    near (suc (suc (suc i))) below = absurd (omega (arith, below))
+twice_premises = premises_of twice twice_near

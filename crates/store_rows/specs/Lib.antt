@@ -1,3 +1,4 @@
+pub mod Between
 pub mod Pieces
 pub mod Scatter
 pub mod Where

@@ -5,6 +5,7 @@ use Rattle.rank_shape.specs.Order.{Level}
 use Rattle.rank_shape.specs.declared.distance.Entry.{Entry}
 use Rattle.rank_shape.specs.declared.distance.Entry.TheVariants as entry
 use Rattle.store_laws.specs.Store.{Statement, Temporary}
+use Rattle.store_laws.specs.Bodies.{at_once, AreApart}
 use Rattle.store_laws.specs.Fusion.{Access, IsFusable}
 
 -- a turn adds up a number and some cells, and stores the sum into a cell
@@ -20,8 +21,14 @@ turn_of place = slice_index_or place 0 0
 abbrev pub value_of : Piece → ℕ → List ℕ → ℕ
 value_of piece i cells = piece.plus + sum (map (λ cell. slice_index_or cells (cell i) 0) piece.from)
 
+abbrev pub statement_of : Piece → Statement (List ℕ) (List ℕ) ℕ ℕ
+statement_of piece = record {
+  evaluate = λ turn s. Ok (record { value = value_of piece (turn_of turn) s; after = s });
+  store = λ turn v s. slice_set s (piece.into (turn_of turn)) v;
+}
+
 abbrev pub body_of : Piece → List ℕ → List ℕ → Result (List ℕ) ℕ
-body_of piece turn cells = Ok (slice_set cells (piece.into (turn_of turn)) (value_of piece (turn_of turn) cells))
+body_of piece = at_once (statement_of piece)
 
 abbrev pub access_of : Bool → (ℕ → ℕ) → Access
 access_of stores cell = record { stores = stores; variable = 0; element = λ turn. cell (turn_of turn) }
@@ -63,6 +70,10 @@ always s = true
 
 abbrev pub Fusable : Piece → Piece → Type 0
 Fusable first second = IsFusable (body_of first) (body_of second) (λ s. IsTrue (always s)) extents distances
+
+-- turns of the two, the second's and then the first's, neither of which looks at what the other stores
+abbrev pub TurnsApart : Piece → Piece → List ℕ → List ℕ → Type 0
+TurnsApart first second = AreApart (statement_of second) (statement_of first) (λ s. IsTrue (always s)) (λ turn v. IsTrue true) (λ turn v. IsTrue true)
 
 -- ---- forms of one statement
 

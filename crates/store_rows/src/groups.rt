@@ -8,13 +8,14 @@ ghost use Rattle.store_laws.specs.Bodies.{at_once, from_kept};
 ghost use Rattle.store_laws.specs.Fusion.{AreMeasured, nest_each, all_of};
 ghost use Rattle.store_laws.specs.Loops.{run_each, nested, both, start_of};
 ghost use Rattle.store_laws.specs.Store.{and_then, direct, deferred, filling, through};
-ghost use Rattle.store_rows.specs.Pieces.{Fusable, accesses_of, added, backwards, body_of, cells, copied, distances, extents, forwards, kept, moved, shifted};
+ghost use Rattle.store_rows.specs.Pieces.{Fusable, TurnsApart, accesses_of, added, backwards, body_of, cells, copied, distances, extents, forwards, kept, moved, shifted};
 
 /// `a(2:4) = b(1:3) + 10` and `b(1:3) = a(1:3)`: the first stores `a` one turn before the second reads it, so the two are
 /// one loop that runs forwards. Backwards the second would read `a` too soon.
-#[tactic(auto, using(crate::proofs::PieceLaws::shifted_copied, crate::proofs::PieceLaws::shifted_copied_fuse))]
+#[tactic(auto, using(crate::proofs::PieceLaws::shifted_copied, crate::proofs::PieceLaws::shifted_copied_fuse, crate::proofs::PieceLaws::last_and_first))]
 pub fn two_nests()
     ensures measured { AreMeasured (accesses_of shifted) (accesses_of copied) extents distances }
+    ensures turns_apart { TurnsApart shifted copied (0 ∷ []) (2 ∷ []) }
     ensures fusable { Fusable shifted copied }
     ensures legal { IsLegal (turned forwards) distances }
     ensures apart { and_then (nested (body_of shifted) forwards extents (start_of extents) cells) (nested (body_of copied) forwards extents (start_of extents))

@@ -8,4 +8,4 @@ mod tests_behind;
 
 pub use groups::{forms, three_nests, two_nests};
 pub use masks::{called_under_mask, mask_and_elements};
-pub use tests_behind::{many_one, one_one};
+pub use tests_behind::{between_loops, many_one, one_one};
