@@ -1,6 +1,8 @@
 //! Laws of reordered and of fused stores: below all lowerings, each stated once for any turns, states and values, so that
 //! array assignment, WHERE and FORALL are instances of them. What a statement that stores in each of its turns means stands
-//! in `specs/Store.antt`, its loops in `specs/Loops.antt`, and legal orders of loops in `specs/Legal.antt`.
+//! in `specs/Store.antt`, its loops in `specs/Loops.antt`, and legal orders of loops in `specs/Legal.antt`; which nests are one
+//! in `specs/Fusion.antt` and `specs/Bodies.antt`, the test for an element stored into twice in `specs/ManyOne.antt`, and masks
+//! in `specs/Masked.antt`.
 //!
 //! Each function is a law: it does nothing, and its contract is the theorem. Which states are sound, and which values a
 //! turn may store, are tests that the caller picks; where nothing is to be said, they are always true. The lemmas in
