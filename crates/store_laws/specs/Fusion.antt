@@ -18,10 +18,12 @@ pub record IsMeasured (distances : List (List Entry)) (turn other : List ℕ) : 
 
 -- the first body never stops, and of any two places, either the second's turn may come before the first's, or they lie one
 -- of the distances apart, which go from the first to the second
-pub record IsFusable {S F : Type 0} (first second : List ℕ → S → Result S F) (Sound : S → Type 0) (extents : List ℕ) (distances : List (List Entry)) : Type 0 where
+pub record IsFusable {S F : Type 0} (first second : List ℕ → S → Result S F) (Sound : S → Type 0) (extents : List ℕ)
+    (distances : List (List Entry)) : Type 0 where
   pub quiet : (place : List ℕ) → IsPlace extents place → IsQuiet first Sound place
   pub keeps : (place : List ℕ) → IsPlace extents place → KeepsSound (second place) Sound
-  pub told : (place other : List ℕ) → IsPlace extents place → IsPlace extents other → place ≢ other → Passes (second other) first Sound place ⊎ IsMeasured distances place other
+  pub told : (place other : List ℕ) → IsPlace extents place → IsPlace extents other → place ≢ other →
+      Passes (second other) first Sound place ⊎ IsMeasured distances place other
 
 -- two nests, one after the other, do what the one nest with both bodies does
 abbrev pub AreOneNest : {S F : Type 0} → (List ℕ → S → Result S F) → (List ℕ → S → Result S F) → List Level → List ℕ → S → Type 0
@@ -50,19 +52,25 @@ conflict access other = (access.variable == other.variable) && (access.stores ||
 
 -- accesses of the two that conflict are at one element only in turns that lie one of the distances apart
 pub record AreMeasured (firsts seconds : List Access) (extents : List ℕ) (distances : List (List Entry)) : Type 0 where
-  pub each : (access other : Access) → Member firsts access → Member seconds other → IsTrue (conflict access other) → (place later : List ℕ) → IsPlace extents place → IsPlace extents later → access.element place ≡ other.element later → IsMeasured distances place later
+  pub each : (access other : Access) → Member firsts access → Member seconds other → IsTrue (conflict access other) →
+      (place later : List ℕ) → IsPlace extents place → IsPlace extents later → access.element place ≡ other.element later →
+      IsMeasured distances place later
 
 -- in these turns no accesses of the two that conflict are at one element
 pub record IsAside (firsts seconds : List Access) (place other : List ℕ) : Type 0 where
-  pub apart : (access later : Access) → Member firsts access → Member seconds later → IsTrue (conflict access later) → access.element place ≢ later.element other
+  pub apart : (access later : Access) → Member firsts access → Member seconds later → IsTrue (conflict access later) →
+      access.element place ≢ later.element other
 
 -- the two bodies touch each other by these accesses alone
-pub record AreAllOf {S F : Type 0} (firsts seconds : List Access) (first second : List ℕ → S → Result S F) (Sound : S → Type 0) (extents : List ℕ) : Type 0 where
-  pub passes : (place other : List ℕ) → IsPlace extents place → IsPlace extents other → IsAside firsts seconds place other → Passes (second other) first Sound place
+pub record AreAllOf {S F : Type 0} (firsts seconds : List Access) (first second : List ℕ → S → Result S F)
+    (Sound : S → Type 0) (extents : List ℕ) : Type 0 where
+  pub passes : (place other : List ℕ) → IsPlace extents place → IsPlace extents other → IsAside firsts seconds place other →
+      Passes (second other) first Sound place
 
 abbrev pub FusableByAccesses : (S F : Type 0) → Type 0
 FusableByAccesses S F =
-    (first second : List ℕ → S → Result S F) (sound : S → Bool) (extents : List ℕ) (distances : List (List Entry)) (firsts seconds : List Access) →
+    (first second : List ℕ → S → Result S F) (sound : S → Bool) (extents : List ℕ) (distances : List (List Entry))
+    (firsts seconds : List Access) →
     ((place : List ℕ) → IsPlace extents place → IsQuiet first (λ s. IsTrue (sound s)) place) →
     ((place : List ℕ) → IsPlace extents place → KeepsSound (second place) (λ s. IsTrue (sound s))) →
     AreMeasured firsts seconds extents distances →

@@ -45,8 +45,10 @@ tested_between statement temporary twice fault turns s =
     (λ filled. and_then (unless (twice filled) fault filled) (λ passed. Ok (store_kept statement temporary turns passed)))
 
 -- what the state tells behind all stores is whether one of the elements stood twice
-pub record TellsTwice {T S V F : Type 0} (statement : Statement T S V F) (elements : T → V → List ℕ) (twice : S → Bool) (turns : List T) (s : S) : Type 0 where
-  pub told : (es : Evaluated (List V) S) → values statement turns s ≡ Ok es → twice (store_all statement turns es.value es.after) ≡ stands_twice (elements_of elements turns es.value)
+pub record TellsTwice {T S V F : Type 0} (statement : Statement T S V F) (elements : T → V → List ℕ) (twice : S → Bool)
+    (turns : List T) (s : S) : Type 0 where
+  pub told : (es : Evaluated (List V) S) → values statement turns s ≡ Ok es →
+      twice (store_all statement turns es.value es.after) ≡ stands_twice (elements_of elements turns es.value)
 
 -- ---- marks
 
@@ -57,10 +59,15 @@ pub record Marks (S : Type 0) : Type 0 where
 
 -- a turn marks the elements that it stores into, and tells if one of them had its mark or stands twice there; its evaluation
 -- leaves the marks alone
-pub record KeepsMarks {T S V F : Type 0} (statement : Statement T S V F) (elements : T → V → List ℕ) (marks : Marks S) (Sound : S → Type 0) (May : T → V → Type 0) (turn : T) : Type 0 where
-  pub marked : (v : V) (s : S) (other : ℕ) → Sound s → May turn v → marks.marked (statement.store turn v s) other ≡ (is_among other (elements turn v) || marks.marked s other)
-  pub again : (v : V) (s : S) → Sound s → May turn v → marks.twice (statement.store turn v s) ≡ (list_any (marks.marked s) (elements turn v) || (stands_twice (elements turn v) || marks.twice s))
-  pub left_marked : (s : S) (e : Evaluated V S) (other : ℕ) → Sound s → statement.evaluate turn s ≡ Ok e → marks.marked e.after other ≡ marks.marked s other
+pub record KeepsMarks {T S V F : Type 0} (statement : Statement T S V F) (elements : T → V → List ℕ) (marks : Marks S)
+    (Sound : S → Type 0) (May : T → V → Type 0) (turn : T) : Type 0 where
+  pub marked : (v : V) (s : S) (other : ℕ) → Sound s → May turn v →
+      marks.marked (statement.store turn v s) other ≡ (is_among other (elements turn v) || marks.marked s other)
+  pub again : (v : V) (s : S) → Sound s → May turn v →
+      marks.twice (statement.store turn v s)
+      ≡ (list_any (marks.marked s) (elements turn v) || (stands_twice (elements turn v) || marks.twice s))
+  pub left_marked : (s : S) (e : Evaluated V S) (other : ℕ) → Sound s → statement.evaluate turn s ≡ Ok e →
+      marks.marked e.after other ≡ marks.marked s other
   pub left_twice : (s : S) (e : Evaluated V S) → Sound s → statement.evaluate turn s ≡ Ok e → marks.twice e.after ≡ marks.twice s
 
 pub record IsUnmarked {S : Type 0} (marks : Marks S) (s : S) : Type 0 where
@@ -69,7 +76,8 @@ pub record IsUnmarked {S : Type 0} (marks : Marks S) (s : S) : Type 0 where
 
 abbrev pub MarksTell : (T S V F : Type 0) → Type 0
 MarksTell T S V F =
-    (statement : Statement T S V F) (elements : T → V → List ℕ) (marks : Marks S) (sound : S → Bool) (may : T → V → Bool) (turns : List T) (s : S) →
+    (statement : Statement T S V F) (elements : T → V → List ℕ) (marks : Marks S) (sound : S → Bool) (may : T → V → Bool)
+    (turns : List T) (s : S) →
     Every (Keeps statement (λ s. IsTrue (sound s)) (λ t v. IsTrue (may t v))) turns →
     Every (KeepsMarks statement elements marks (λ s. IsTrue (sound s)) (λ t v. IsTrue (may t v))) turns →
     IsUnmarked marks s →
@@ -80,7 +88,8 @@ MarksTell T S V F =
 
 abbrev pub TestedBehind : (T S V F : Type 0) → Type 0
 TestedBehind T S V F =
-    (statement : Statement T S V F) (elements : T → V → List ℕ) (twice : S → Bool) (fault : F) (sound : S → Bool) (may : T → V → Bool) (turns : List T) (s : S) →
+    (statement : Statement T S V F) (elements : T → V → List ℕ) (twice : S → Bool) (fault : F) (sound : S → Bool)
+    (may : T → V → Bool) (turns : List T) (s : S) →
     Every (Keeps statement (λ s. IsTrue (sound s)) (λ t v. IsTrue (may t v))) turns →
     Pairwise (Ignores statement (λ s. IsTrue (sound s)) (λ t v. IsTrue (may t v))) turns →
     TellsTwice statement elements twice turns s →
@@ -88,30 +97,38 @@ TestedBehind T S V F =
     tested_behind statement twice fault turns s ≡ tested statement elements fault turns s
 
 -- the two stores may change places where no element stands twice among theirs
-pub record CommutesApart {T S V F : Type 0} (statement : Statement T S V F) (elements : T → V → List ℕ) (Sound : S → Type 0) (May : T → V → Type 0) (turn other : T) : Type 0 where
-  pub same : (v w : V) (s : S) → Sound s → May turn v → May other w → stands_twice (elements turn v ++ elements other w) ≡ false → statement.store turn v (statement.store other w s) ≡ statement.store other w (statement.store turn v s)
+pub record CommutesApart {T S V F : Type 0} (statement : Statement T S V F) (elements : T → V → List ℕ) (Sound : S → Type 0)
+    (May : T → V → Type 0) (turn other : T) : Type 0 where
+  pub same : (v w : V) (s : S) → Sound s → May turn v → May other w →
+      stands_twice (elements turn v ++ elements other w) ≡ false →
+      statement.store turn v (statement.store other w s) ≡ statement.store other w (statement.store turn v s)
 
 -- a statement whose turns may come in any order, once all are evaluated before any store, and no element stands twice
-pub record IsFreeOnce {S V F : Type 0} (statement : Statement (List ℕ) S V F) (elements : List ℕ → V → List ℕ) (Sound : S → Type 0) (May : List ℕ → V → Type 0) (extents : List ℕ) (s : S) : Type 0 where
+pub record IsFreeOnce {S V F : Type 0} (statement : Statement (List ℕ) S V F) (elements : List ℕ → V → List ℕ)
+    (Sound : S → Type 0) (May : List ℕ → V → Type 0) (extents : List ℕ) (s : S) : Type 0 where
   pub still : (place : List ℕ) → IsPlace extents place → IsStill statement Sound place
-  pub commutes : (place other : List ℕ) → IsPlace extents place → IsPlace extents other → place ≢ other → CommutesApart statement elements Sound May place other
+  pub commutes : (place other : List ℕ) → IsPlace extents place → IsPlace extents other → place ≢ other →
+      CommutesApart statement elements Sound May place other
   pub stops_alike : (place other : List ℕ) → IsPlace extents place → IsPlace extents other → StopsAlike statement s place other
 
 abbrev pub TestedBehindInLegalOrder : (S V F : Type 0) → ℕ → List Level → List ℕ → List (List Entry) → Type 0
 TestedBehindInLegalOrder S V F rank order extents distances =
-    (statement : Statement (List ℕ) S V F) (elements : List ℕ → V → List ℕ) (twice : S → Bool) (fault : F) (sound : S → Bool) (may : List ℕ → V → Bool) (s : S) →
+    (statement : Statement (List ℕ) S V F) (elements : List ℕ → V → List ℕ) (twice : S → Bool) (fault : F) (sound : S → Bool)
+    (may : List ℕ → V → Bool) (s : S) →
     IsTold statement (λ s. IsTrue (sound s)) (λ t v. IsTrue (may t v)) extents distances →
     KeepsPlaces statement (λ s. IsTrue (sound s)) (λ t v. IsTrue (may t v)) extents →
     IsFreeOnce statement elements (λ s. IsTrue (sound s)) (λ t v. IsTrue (may t v)) extents s →
     TellsTwice statement elements twice (tour order extents) s →
     IsTrue (sound s) →
-    tested_behind statement twice fault (tour order extents) s ≡ tested statement elements fault (tour (element_order_of rank) extents) s
+    tested_behind statement twice fault (tour order extents) s
+    ≡ tested statement elements fault (tour (element_order_of rank) extents) s
 
 -- ---- the test between two loops
 
 abbrev pub TestedBetween : (T S V F : Type 0) → Type 0
 TestedBetween T S V F =
-    (statement : Statement T S V F) (temporary : Temporary T S V) (elements : T → V → List ℕ) (twice : S → Bool) (fault : F) (sound : S → Bool) (may : T → V → Bool) (turns : List T) (s : S) →
+    (statement : Statement T S V F) (temporary : Temporary T S V) (elements : T → V → List ℕ) (twice : S → Bool) (fault : F)
+    (sound : S → Bool) (may : T → V → Bool) (turns : List T) (s : S) →
     IsKeptApart statement temporary (λ s. IsTrue (sound s)) (λ t v. IsTrue (may t v)) →
     Every (Keeps statement (λ s. IsTrue (sound s)) (λ t v. IsTrue (may t v))) turns →
     Every (Keeps (filling statement temporary) (λ s. IsTrue (sound s)) (λ t v. IsTrue (may t v))) turns →

@@ -47,7 +47,8 @@ pub record IsStillMask {T S F : Type 0} (mask : Mask T S F) (Sound : S → Type 
   pub after : (s : S) (b : Evaluated Bool S) → Sound s → mask turn s ≡ Ok b → b.after ≡ s
 
 -- where a turn's evaluation stops the run, and the mask of a later turn would too, they do so alike
-pub record StopsLikeMask {T S V F : Type 0} (mask : Mask T S F) (statement : Statement T S V F) (s : S) (turn later : T) : Type 0 where
+pub record StopsLikeMask {T S V F : Type 0} (mask : Mask T S F) (statement : Statement T S V F) (s : S)
+    (turn later : T) : Type 0 where
   pub same : (stop other : F) → statement.evaluate turn s ≡ Err stop → mask later s ≡ Err other → stop ≡ other
 
 -- all values of the guarded statement are those under the mask
@@ -70,8 +71,11 @@ pub record IsQuietMask {T S F : Type 0} (mask : Mask T S F) (Sound : S → Type 
   pub looks : (s : S) → Sound s → (truth : Bool) × (mask turn s ≡ Ok (record { value = truth; after = s }))
 
 -- the later turn's mask is the same before and after the turn's evaluation
-pub record LeavesMask {T S V F : Type 0} (mask : Mask T S F) (statement : Statement T S V F) (Sound : S → Type 0) (turn later : T) : Type 0 where
-  pub same : (s : S) (e : Evaluated V S) (truth : Bool) → Sound s → statement.evaluate turn s ≡ Ok e → mask later s ≡ Ok (record { value = truth; after = s }) → mask later e.after ≡ Ok (record { value = truth; after = e.after })
+pub record LeavesMask {T S V F : Type 0} (mask : Mask T S F) (statement : Statement T S V F) (Sound : S → Type 0)
+    (turn later : T) : Type 0 where
+  pub same : (s : S) (e : Evaluated V S) (truth : Bool) → Sound s → statement.evaluate turn s ≡ Ok e →
+      mask later s ≡ Ok (record { value = truth; after = s }) →
+      mask later e.after ≡ Ok (record { value = truth; after = e.after })
 
 abbrev pub QuietMaskInNest : (T S V F : Type 0) → Type 0
 QuietMaskInNest T S V F =

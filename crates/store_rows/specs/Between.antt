@@ -38,7 +38,10 @@ is_turn turn = nat_lt (turn_of turn) 3
 pub record Premises (p : ℕ → ℕ) : Type 0 where
   pub apart : IsKeptApart (stored_later p) (kept_aside p) (λ s. IsTrue (is_wide s)) (λ turn v. IsTrue (is_turn turn))
   pub keeps : Every (Keeps (stored_later p) (λ s. IsTrue (is_wide s)) (λ turn v. IsTrue (is_turn turn))) (tour forwards extents)
-  pub fills : Every (Keeps (filling (stored_later p) (kept_aside p)) (λ s. IsTrue (is_wide s)) (λ turn v. IsTrue (is_turn turn))) (tour forwards extents)
-  pub ignores : Pairwise (Ignores (filling (stored_later p) (kept_aside p)) (λ s. IsTrue (is_wide s)) (λ turn v. IsTrue (is_turn turn))) (tour forwards extents)
-  pub others : Pairwise (KeepsOther (kept_aside p) (λ s. IsTrue (is_wide s)) (λ turn v. IsTrue (is_turn turn))) (tour forwards extents)
+  pub fills : Every (Keeps (filling (stored_later p) (kept_aside p)) (λ s. IsTrue (is_wide s))
+      (λ turn v. IsTrue (is_turn turn))) (tour forwards extents)
+  pub ignores : Pairwise (Ignores (filling (stored_later p) (kept_aside p)) (λ s. IsTrue (is_wide s))
+      (λ turn v. IsTrue (is_turn turn))) (tour forwards extents)
+  pub others : Pairwise (KeepsOther (kept_aside p) (λ s. IsTrue (is_wide s)) (λ turn v. IsTrue (is_turn turn)))
+      (tour forwards extents)
   pub tells : TellsTwice (filling (stored_later p) (kept_aside p)) (element_of p) (λ s. s.again) (tour forwards extents) wide

@@ -73,7 +73,8 @@ Fusable first second = IsFusable (body_of first) (body_of second) (λ s. IsTrue 
 
 -- turns of the two, the second's and then the first's, neither of which looks at what the other stores
 abbrev pub TurnsApart : Piece → Piece → List ℕ → List ℕ → Type 0
-TurnsApart first second = AreApart (statement_of second) (statement_of first) (λ s. IsTrue (always s)) (λ turn v. IsTrue true) (λ turn v. IsTrue true)
+TurnsApart first second = AreApart (statement_of second) (statement_of first) (λ s. IsTrue (always s)) (λ turn v. IsTrue true)
+    (λ turn v. IsTrue true)
 
 -- ---- forms of one statement
 

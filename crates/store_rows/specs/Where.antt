@@ -12,7 +12,8 @@ divided fault x y s = if y == 0 then Err fault else Ok (record { value = x / y; 
 
 -- 10 / m > 0
 abbrev pub positive : ℕ → Mask (List ℕ) (List ℕ) ℕ
-positive fault turn s = and_then (divided fault 10 (slice_index s (turn_of turn + 3)) s) (λ e. Ok (record { value = not (e.value == 0); after = e.after }))
+positive fault turn s = and_then (divided fault 10 (slice_index s (turn_of turn + 3)) s)
+    (λ e. Ok (record { value = not (e.value == 0); after = e.after }))
 
 -- a = 100 / d
 abbrev pub shared_out : ℕ → Statement (List ℕ) (List ℕ) ℕ ℕ
