@@ -77,10 +77,10 @@ impl Blocks {
 
     /// Cell i of a block of integers, where the block is where it was when the reference was made.
     #[inline(always)]
-    pub fn cell_at_hand(&self, link: &Link, i: i64) -> Option<i64>
+    pub fn cell_at_hint(&self, link: &Link, i: i64) -> Option<i64>
         ensures { IfSome result (λ value. and_then (ints_at self.now.blocks (Some link.now)) (λ cells. int_cell cells i) ≡ Ok value) }
     {
-        let Some(slot) = slot_at_hand(&self.slots, self.made, link) else {
+        let Some(slot) = slot_at_hint(&self.slots, self.made, link) else {
             return None;
         };
         match slot.int_cell(i) {
@@ -153,12 +153,12 @@ impl Blocks {
     /// Sets cell i of a block of integers, where the block is where it was when the reference was made. Answers whether
     /// it did.
     #[inline(always)]
-    pub fn store_at_hand(&mut self, link: &Link, i: i64, value: i64) -> bool
+    pub fn store_at_hint(&mut self, link: &Link, i: i64, value: i64) -> bool
         ensures set { IsTrue result → changed self.old.blocks (Some link.now) (store_int i value) ≡ Ok self.new.blocks }
         ensures made { self.new.made ≡ self.old.made }
         ensures stays { result ≡ false → self.new ≡ self.old }
     {
-        let Some(at) = place_at_hand(&self.slots, link) else {
+        let Some(at) = place_at_hint(&self.slots, link) else {
             return false;
         };
         self.slots[at].store_int(i, value).is_ok()
@@ -273,7 +273,7 @@ fn place_of(slots: &[Slot], made: u64, link: &Option<Link>) -> usize
     ensures { IsPlace slots.now link.now result }
 {
     match link {
-        Some(link) => match place_at_hand(slots, link) {
+        Some(link) => match place_at_hint(slots, link) {
             Some(at) => at,
             None => search(slots, made, link.number()),
         },
@@ -283,7 +283,7 @@ fn place_of(slots: &[Slot], made: u64, link: &Option<Link>) -> usize
 
 // The place of the slot that a reference leads to, where that is where it was when the reference was made.
 #[inline(always)]
-fn place_at_hand(slots: &[Slot], link: &Link) -> Option<usize>
+fn place_at_hint(slots: &[Slot], link: &Link) -> Option<usize>
     ensures place { IfSome result (λ at. IsPlace slots.now (Some link.now) at) }
     ensures within { IfSome result (λ at. at < length slots.now) }
 {
@@ -296,12 +296,12 @@ fn place_at_hand(slots: &[Slot], link: &Link) -> Option<usize>
 
 // That slot.
 #[inline(always)]
-fn slot_at_hand<'a>(slots: &'a [Slot], made: u64, link: &Link) -> Option<&'a Slot>
+fn slot_at_hint<'a>(slots: &'a [Slot], made: u64, link: &Link) -> Option<&'a Slot>
     requires { IsRising 0 made slots.now }
     ensures { IsSome result → cells_at (living slots.entry.now) (Some link.now) ≡ slot_cells (option_copied result) }
 {
     let _ = made;
-    match place_at_hand(slots, link) {
+    match place_at_hint(slots, link) {
         Some(at) => nth(slots, at),
         None => None,
     }

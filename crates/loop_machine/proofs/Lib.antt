@@ -1,5 +1,5 @@
-mod Answering
+mod Runs
 mod Plans
 mod Turns
 mod Variables
-mod Ways
+mod Steps

@@ -14,7 +14,7 @@ use Rattle.loop_tree.specs.declared.tree.Function.{Function}
 use Rattle.loop_tree.specs.State.{Brace, Upward, State, Next, Goes, Ends, with_at, with_rest, with_blocks, set_int, set_index}
 use Rattle.loop_tree.specs.Values.{number_at, block_at, atom_in, atom_of, int_value}
 use Rattle.loop_tree.specs.Machine.{rest_of, again, up_again, close_line, given, changed, store_int, change_line, int_line, block_line, at_line, control_line, row_line, do_line, step_at, step}
-use Rattle.loop_rows.specs.declared.state.Held.TheVariants as held
+use Rattle.loop_rows.specs.declared.state.OpenBrace.TheVariants as open_brace
 use Rattle.loop_rows.specs.declared.state.Core.{Core}
 use Rattle.loop_machine.specs.declared.sweep.CellRow.TheVariants as cell
 use Rattle.loop_machine.specs.declared.sweep.Frequent.TheVariants as frequent
@@ -28,7 +28,7 @@ use Rattle.loop_rows.specs.Shown.{brace, lines_in, shown}
 use Rattle.loop_machine.specs.Plans.{atom_of_index, atom_of_operand, row_of, placed, assembled}
 use Rattle.loop_rows.proofs.Exits.{drop_some}
 use Rattle.loop_machine.specs.Steps.{ReachesSilently}
-use Rattle.loop_machine.proofs.Ways.{quiet_on}
+use Rattle.loop_machine.proofs.Steps.{quiet_on}
 
 -- what a closing brace does, where that of such a loop is the innermost
 closes : (functions : List Function) (s : State) (rest : List CodeLine) (k : ℕ) (bound : Atom) (body : List CodeLine) (outer : List Brace) →
@@ -39,14 +39,14 @@ closes functions s rest k bound body outer e f = ap (step_at functions s) e ∙ 
 
 pub begins_again : (functions : List Function) (core : Core) (k : ℕ) (bound : Atom) (body : ℕ) (next : ℤ) →
     slice_get (lines_in functions core.active.routine) core.active.place ≡ Some code.Close →
-    core.active.held ≡ held.Upward k bound body ∷ rest_of core.active.held →
+    core.active.braces ≡ open_brace.Upward k bound body ∷ rest_of core.active.braces →
     next ≡ int_wrap w64 (number_at core.active.indices k +ℤ pos 1) →
     int_lt (number_at (with_at (pos 0) core.active.indices k next) k) (atom_in core.active.ints (with_at (pos 0) core.active.indices k next) bound) ≡ true →
     step functions (shown functions core) ≡ Goes true [] (shown functions (record core { active = record core.active { place = body; indices = with_at (pos 0) core.active.indices k next } }))
 begins_again functions core k bound body next line top e below =
     let lines = lines_in functions core.active.routine in
     let s = with_rest (shown functions core) (drop (core.active.place + 1) lines) in
-    let outer = map (brace lines) (rest_of core.active.held) in
+    let outer = map (brace lines) (rest_of core.active.braces) in
     closes functions (shown functions core) (drop (core.active.place + 1) lines) k bound (drop body lines) outer (drop_some lines core.active.place code.Close line) (ap (map (brace lines)) top) ∙
     ap (λ (v : ℤ). up_again (set_index s k v) k bound (drop body lines) outer) (sym e) ∙ ap (λ (goes : Bool). again (set_index s k next) goes (drop body lines) outer) below
 

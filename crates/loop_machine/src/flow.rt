@@ -9,7 +9,7 @@ ghost use Rattle.loop_machine.specs.Moves.{Did};
 
 use crate::moves::{Move, halts};
 use loop_heap::Halt;
-use loop_rows::{Core, Held, Routine, begins_other, exit, next, outer, past};
+use loop_rows::{Core, OpenBrace, Routine, begins_other, exit, next, outer, past};
 use loop_tree::{Atom, Stack};
 use loop_values::{Numbers, difference, sum};
 use std::alloc::AllocError;
@@ -39,7 +39,7 @@ pub fn choose(routines: &[Routine], core: &mut Core, test: i64, may: bool) -> Mo
 {
     let _ = may;
     if test != 0 {
-        return match core.active.held.push(Held::Choice) {
+        return match core.active.braces.push(OpenBrace::Choice) {
             Ok(()) => Move::Quiet,
             Err(_) => halts(core, Halt::Memory),
         };
@@ -58,7 +58,7 @@ fn skip(routines: &[Routine], core: &mut Core) -> Result<(), AllocError>
 {
     let place = exit(routines, core.active.routine, core.active.place);
     if begins_other(routines, core.active.routine, place) {
-        core.active.held.push(Held::Choice)?;
+        core.active.braces.push(OpenBrace::Choice)?;
     }
     core.active.place = next(routines, core.active.routine, place);
     Ok(())
@@ -71,7 +71,7 @@ pub fn pass_other(routines: &[Routine], core: &mut Core, may: bool) -> Move
 {
     let _ = may;
     core.active.place = past(routines, core.active.routine, core.active.place);
-    core.active.held.drop_top();
+    core.active.braces.drop_top();
     Move::Quiet
 }
 
@@ -84,10 +84,10 @@ pub fn begin_forever(routines: &[Routine], core: &mut Core, may: bool) -> Move
     if !may {
         return Move::Waits;
     }
-    let held = Held::Forever {
+    let opened = OpenBrace::Forever {
         body: core.active.place,
     };
-    match core.active.held.push(held) {
+    match core.active.braces.push(opened) {
         Ok(()) => Move::Turn,
         Err(_) => halts(core, Halt::Memory),
     }
@@ -124,10 +124,10 @@ fn begin(
     k: u32,
     value: i64,
     goes: bool,
-    held: Held,
+    opened: OpenBrace,
     may: bool,
 ) -> Move
-    ensures { Did (begin_loop (set_index (shown routines.now core.old) k value) goes (brace (lines_in routines.now core.old.active.routine) held)) may routines.now core.old core.new result }
+    ensures { Did (begin_loop (set_index (shown routines.now core.old) k value) goes (brace (lines_in routines.now core.old.active.routine) opened)) may routines.now core.old core.new result }
 {
     if !goes {
         if core.active.indices.set(k, value).is_err() {
@@ -142,7 +142,7 @@ fn begin(
     if core.active.indices.set(k, value).is_err() {
         return halts(core, Halt::Memory);
     }
-    match core.active.held.push(held) {
+    match core.active.braces.push(opened) {
         Ok(()) => Move::Turn,
         Err(_) => halts(core, Halt::Memory),
     }
@@ -154,12 +154,12 @@ pub fn begin_up(routines: &[Routine], core: &mut Core, k: u32, bound: Atom, may:
     ensures { Did (for_up_line (shown routines.now core.old) k bound) may routines.now core.old core.new result }
 {
     let goes = is_below(&core.active.ints, &core.active.indices, k, bound, 0);
-    let held = Held::Upward {
+    let opened = OpenBrace::Upward {
         k,
         bound,
         body: core.active.place,
     };
-    begin(routines, core, k, 0, goes, held, may)
+    begin(routines, core, k, 0, goes, opened, may)
 }
 
 /// `for (kN = A - 1; kN >= 0; kN = kN - 1) {`
@@ -169,11 +169,11 @@ pub fn begin_down(routines: &[Routine], core: &mut Core, k: u32, bound: i64, may
 {
     let value = difference(bound, 1);
     let goes = is_natural(&core.active.indices, k, value);
-    let held = Held::Downward {
+    let opened = OpenBrace::Downward {
         k,
         body: core.active.place,
     };
-    begin(routines, core, k, value, goes, held, may)
+    begin(routines, core, k, value, goes, opened, may)
 }
 
 /// A loop whose variable is set begins its body again, or is left.
@@ -186,14 +186,14 @@ fn repeat(
     body: usize,
     may: bool,
 ) -> Move
-    ensures { Did (again (set_index (shown routines.now core.old) k value) goes (drop body (lines_in routines.now core.old.active.routine)) (map (brace (lines_in routines.now core.old.active.routine)) (rest_of core.old.active.held))) may routines.now core.old core.new result }
+    ensures { Did (again (set_index (shown routines.now core.old) k value) goes (drop body (lines_in routines.now core.old.active.routine)) (map (brace (lines_in routines.now core.old.active.routine)) (rest_of core.old.active.braces))) may routines.now core.old core.new result }
 {
     let _ = routines;
     if !goes {
         if core.active.indices.set(k, value).is_err() {
             return halts(core, Halt::Memory);
         }
-        core.active.held.drop_top();
+        core.active.braces.drop_top();
         return Move::Quiet;
     }
     if !may {
@@ -209,27 +209,27 @@ fn repeat(
 /// `}`
 #[tactic(auto, unfolding(loop_tree::specs::Machine::close_line))]
 pub fn close(routines: &[Routine], core: &mut Core, may: bool) -> Move
-    ensures { Did (close_line (shown routines.now core.old) (map (brace (lines_in routines.now core.old.active.routine)) core.old.active.held)) may routines.now core.old core.new result }
+    ensures { Did (close_line (shown routines.now core.old) (map (brace (lines_in routines.now core.old.active.routine)) core.old.active.braces)) may routines.now core.old core.new result }
 {
-    let Some(held) = core.active.held.top() else {
+    let Some(opened) = core.active.braces.top() else {
         return leave(routines, core, may);
     };
-    match *held {
-        Held::Choice => {
-            core.active.held.drop_top();
+    match *opened {
+        OpenBrace::Choice => {
+            core.active.braces.drop_top();
             Move::Quiet
         }
-        Held::Upward { k, bound, body } => {
+        OpenBrace::Upward { k, bound, body } => {
             let value = sum(core.active.indices.get(k), 1);
             let goes = is_below(&core.active.ints, &core.active.indices, k, bound, value);
             repeat(routines, core, k, value, goes, body, may)
         }
-        Held::Downward { k, body } => {
+        OpenBrace::Downward { k, body } => {
             let value = difference(core.active.indices.get(k), 1);
             let goes = is_natural(&core.active.indices, k, value);
             repeat(routines, core, k, value, goes, body, may)
         }
-        Held::Forever { body } => {
+        OpenBrace::Forever { body } => {
             if !may {
                 return Move::Waits;
             }
@@ -240,23 +240,28 @@ pub fn close(routines: &[Routine], core: &mut Core, may: bool) -> Move
 }
 
 /// The innermost brace is that of a choice.
-fn is_choice(held: &Stack<Held>) -> bool
-    ensures { result ≡ begins_choice held.now }
+fn is_choice(braces: &Stack<OpenBrace>) -> bool
+    ensures { result ≡ begins_choice braces.now }
 {
-    match held.top() {
-        Some(innermost) => matches!(innermost, Held::Choice),
+    match braces.top() {
+        Some(innermost) => matches!(innermost, OpenBrace::Choice),
         None => false,
     }
 }
 
 /// Takes the braces of choices away up to the innermost loop, and gives the place of the line that closes it.
-fn loop_close(routines: &[Routine], routine: usize, place: usize, held: &mut Stack<Held>) -> usize
-    ensures lines { drop result (lines_in routines.now routine) ≡ (loop_end (map (brace (lines_in routines.now routine)) held.old) (exits (drop place (lines_in routines.now routine)))).lines }
-    ensures braces { map (brace (lines_in routines.now routine)) held.new ≡ (loop_end (map (brace (lines_in routines.now routine)) held.old) (exits (drop place (lines_in routines.now routine)))).braces }
+fn loop_close(
+    routines: &[Routine],
+    routine: usize,
+    place: usize,
+    braces: &mut Stack<OpenBrace>,
+) -> usize
+    ensures lines { drop result (lines_in routines.now routine) ≡ (loop_end (map (brace (lines_in routines.now routine)) braces.old) (exits (drop place (lines_in routines.now routine)))).lines }
+    ensures braces { map (brace (lines_in routines.now routine)) braces.new ≡ (loop_end (map (brace (lines_in routines.now routine)) braces.old) (exits (drop place (lines_in routines.now routine)))).braces }
 {
     let mut closing = exit(routines, routine, place);
-    while is_choice(held) {
-        held.drop_top();
+    while is_choice(braces) {
+        braces.drop_top();
         closing = outer(routines, routine, closing);
     }
     closing
@@ -272,9 +277,9 @@ pub fn leave_loop(routines: &[Routine], core: &mut Core, may: bool) -> Move
         routines,
         core.active.routine,
         core.active.place,
-        &mut core.active.held,
+        &mut core.active.braces,
     );
-    core.active.held.drop_top();
+    core.active.braces.drop_top();
     core.active.place = next(routines, core.active.routine, closing);
     Move::Quiet
 }
@@ -289,7 +294,7 @@ pub fn next_iteration(routines: &[Routine], core: &mut Core, may: bool) -> Move
         routines,
         core.active.routine,
         core.active.place,
-        &mut core.active.held,
+        &mut core.active.braces,
     );
     Move::Quiet
 }

@@ -55,7 +55,7 @@ fn routines_of(alloc: Global, functions: Items<Function>) -> Result<Items<Routin
 
 impl Machine {
     /// The program at its start, with all of this input left.
-    #[tactic(auto, using(crate::proofs::Answering::started))]
+    #[tactic(auto, using(crate::proofs::Runs::started))]
     pub fn new(alloc: Global, program: LoopProgram, input: Vec<u8>) -> Result<Machine, Memory>
         ensures { IfOk result (λ m. m ≡ record { functions = program; state = start program input.items; ended = None }) }
     {
@@ -65,7 +65,7 @@ impl Machine {
         let active = Active {
             routine: 0,
             place: 0,
-            held: Stack::new(alloc),
+            braces: Stack::new(alloc),
             ints: Numbers::new(alloc),
             indices: Numbers::new(alloc),
             texts: Words::new(alloc),

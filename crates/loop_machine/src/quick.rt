@@ -10,7 +10,7 @@ ghost use Rattle.loop_rows.specs.Shown.{shown, lines_in};
 
 use crate::flow::is_below;
 use loop_heap::Link;
-use loop_rows::{Core, Held, Routine, atom};
+use loop_rows::{Core, OpenBrace, Routine, atom};
 use loop_tree::{Atom, BlockRow, CodeLine, IntValue, Operator, Row};
 use loop_values::{difference, operation, product, sum, wrap};
 
@@ -178,7 +178,7 @@ pub fn next_turn(routines: &[Routine], lines: &[CodeLine], core: &mut Core, may:
     let Some(CodeLine::Close) = lines.get(core.active.place) else {
         return false;
     };
-    let Some(Held::Upward { k, bound, body }) = core.active.held.top() else {
+    let Some(OpenBrace::Upward { k, bound, body }) = core.active.braces.top() else {
         return false;
     };
     let (k, bound, body) = (*k, *bound, *body);

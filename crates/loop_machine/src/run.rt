@@ -52,7 +52,7 @@ fn write_record<K: Sink>(core: &mut Core, sink: &mut K) -> Result<(), PutFault>
 }
 
 /// One step, and the record that it writes, with so many turns left. Whether it began a turn, or the answer of the run.
-#[tactic(auto, using(crate::proofs::Ways::silent_step, crate::proofs::Answering::ends_here, crate::proofs::Answering::halts_here, crate::proofs::Answering::waits_here, crate::proofs::Answering::cut_short, crate::proofs::Answering::unwritten))]
+#[tactic(auto, using(crate::proofs::Steps::silent_step, crate::proofs::Runs::ends_here, crate::proofs::Runs::halts_here, crate::proofs::Runs::waits_here, crate::proofs::Runs::cut_short, crate::proofs::Runs::unwritten))]
 fn pass<K: Sink>(
     routines: &[Routine],
     core: &mut Core,

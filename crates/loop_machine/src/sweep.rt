@@ -12,7 +12,7 @@ ghost use Rattle.loop_machine.specs.Plans.{atom_of_index, atom_of_operand, found
 
 use crate::quick::operated;
 use loop_heap::{Blocks, Link};
-use loop_rows::{Core, Held, Routine, atom, lines_at};
+use loop_rows::{Core, OpenBrace, Routine, atom, is_straight, lines_at};
 use loop_tree::{Atom, BlockRow, CodeLine, ControlRow, IntValue, Operator, Row};
 use loop_values::{Numbers, sum, wrap};
 use std::mem;
@@ -188,8 +188,8 @@ fn read(ints: &Numbers, indices: &Numbers, a: &Atom) -> Option<i64>
     ensures { IfSome result (λ value. value ≡ atom_in ints.now indices.now a.now) }
 {
     match a {
-        Atom::Int(n) => ints.at_hand(*n),
-        Atom::Loop(j) => indices.at_hand(*j),
+        Atom::Int(n) => ints.get_dense(*n),
+        Atom::Loop(j) => indices.get_dense(*j),
         Atom::Number(z) => Some(*z),
     }
 }
@@ -211,7 +211,7 @@ fn operand_value(ints: &Numbers, indices: &Numbers, a: &Operand) -> Option<i64>
     ensures { IfSome result (λ value. value ≡ atom_in ints.now indices.now (atom_of_operand a.now)) }
 {
     match a {
-        Operand::Int(n) => ints.at_hand(*n),
+        Operand::Int(n) => ints.get_dense(*n),
         Operand::Other(a) => read(ints, indices, a),
     }
 }
@@ -263,34 +263,34 @@ fn obey(
     let indices = &core.active.indices;
     match row {
         Planned::Frequent(Frequent::Load(n, _, link)) => {
-            let Some(found) = blocks.cell_at_hand(link, own) else {
+            let Some(found) = blocks.cell_at_hint(link, own) else {
                 return false;
             };
-            ints.set_at_hand(*n, found)
+            ints.set_dense(*n, found)
         }
         Planned::Frequent(Frequent::Store(_, i, link)) => {
-            let Some(from) = ints.at_hand(*i) else {
+            let Some(from) = ints.get_dense(*i) else {
                 return false;
             };
-            blocks.store_at_hand(link, own, from)
+            blocks.store_at_hint(link, own, from)
         }
         Planned::Frequent(Frequent::Sum(n, x, y)) => {
-            let Some(x) = ints.at_hand(*x) else {
+            let Some(x) = ints.get_dense(*x) else {
                 return false;
             };
-            let Some(y) = ints.at_hand(*y) else {
+            let Some(y) = ints.get_dense(*y) else {
                 return false;
             };
-            ints.set_at_hand(*n, sum(x, y))
+            ints.set_dense(*n, sum(x, y))
         }
         Planned::Cell(CellRow::Load(n, _, at, link)) => {
             let Some(at) = index_value(ints, indices, k, own, at) else {
                 return false;
             };
-            let Some(found) = blocks.cell_at_hand(link, at) else {
+            let Some(found) = blocks.cell_at_hint(link, at) else {
                 return false;
             };
-            ints.set_at_hand(*n, found)
+            ints.set_dense(*n, found)
         }
         Planned::Cell(CellRow::Store(_, at, from, link)) => {
             let Some(at) = index_value(ints, indices, k, own, at) else {
@@ -299,14 +299,14 @@ fn obey(
             let Some(from) = operand_value(ints, indices, from) else {
                 return false;
             };
-            blocks.store_at_hand(link, at, from)
+            blocks.store_at_hint(link, at, from)
         }
         Planned::Plain(Plain::At(_)) => true,
         Planned::Plain(Plain::Set(n, right)) => {
             let Some(found) = right_side(ints, indices, right) else {
                 return false;
             };
-            ints.set_at_hand(*n, found)
+            ints.set_dense(*n, found)
         }
     }
 }
@@ -318,11 +318,11 @@ fn is_below(ints: &Numbers, indices: &Numbers, k: u32, bound: Atom, value: i64) 
     ensures { IsTrue result → int_lt (number_at (with_at (pos 0) indices.now k value) k) (atom_in ints.now (with_at (pos 0) indices.now k value) bound) ≡ true }
 {
     let limit = match bound {
-        Atom::Int(n) => ints.at_hand(n),
+        Atom::Int(n) => ints.get_dense(n),
         Atom::Loop(j) => if j == k {
             Some(value)
         } else {
-            indices.at_hand(j)
+            indices.get_dense(j)
         },
         Atom::Number(z) => Some(z),
     };
@@ -349,7 +349,7 @@ fn begin_again(
 ) -> bool
     requires here { lines.now ≡ lines_in routines.now core.old.active.routine }
     requires closes { slice_get lines.now close ≡ Some CodeLine.Close }
-    requires innermost { core.old.active.held ≡ Held.Upward k bound body ∷ rest_of core.old.active.held }
+    requires innermost { core.old.active.braces ≡ OpenBrace.Upward k bound body ∷ rest_of core.old.active.braces }
     requires next { next ≡ int_wrap w64 (number_at core.old.active.indices k +ℤ pos 1) }
     ensures led { IsTrue result → step routines.now (shown routines.now (placed (assembled core.old ints.now blocks.now) close)) ≡ Goes true [] (shown routines.now (placed (assembled core.new ints.now blocks.now) body)) }
     ensures begun { IsTrue result → core.new ≡ record core.old { active = record core.old.active { indices = with_at (pos 0) core.old.active.indices k next } } }
@@ -363,7 +363,7 @@ fn begin_again(
     if !is_below(ints, &core.active.indices, k, bound, next) {
         return false;
     }
-    core.active.indices.set_at_hand(k, next)
+    core.active.indices.set_dense(k, next)
 }
 
 /// At most so many turns more of the loop whose body begins here, and the rows behind the last of them, as far as they
@@ -384,7 +384,7 @@ fn turns_apart(
     requires planned { Plans core.old.active.int_blocks core.old.active.line k lines.now core.old.active.place plan.now }
     requires fits { core.old.active.place + length plan.now < 2 ^ 64 }
     requires closes { slice_get lines.now (core.old.active.place + length plan.now) ≡ Some CodeLine.Close }
-    requires innermost { core.old.active.held ≡ Held.Upward k bound core.old.active.place ∷ rest_of core.old.active.held }
+    requires innermost { core.old.active.braces ≡ OpenBrace.Upward k bound core.old.active.place ∷ rest_of core.old.active.braces }
     ensures within { result ≤ may }
     ensures led { ReachesSilently routines.now (shown routines.now (assembled core.old ints.old blocks.old)) result (shown routines.now (assembled core.new ints.new blocks.new)) }
 {
@@ -443,7 +443,7 @@ fn turns(
     requires planned { Plans core.old.active.int_blocks core.old.active.line k lines.now core.old.active.place plan.now }
     requires fits { core.old.active.place + length plan.now < 2 ^ 64 }
     requires closes { slice_get lines.now (core.old.active.place + length plan.now) ≡ Some CodeLine.Close }
-    requires innermost { core.old.active.held ≡ Held.Upward k bound core.old.active.place ∷ rest_of core.old.active.held }
+    requires innermost { core.old.active.braces ≡ OpenBrace.Upward k bound core.old.active.place ∷ rest_of core.old.active.braces }
     ensures within { result ≤ may }
     ensures led { ReachesSilently routines.now (shown routines.now core.old) result (shown routines.now core.new) }
 {
@@ -469,12 +469,12 @@ fn turns(
 /// many turns. Answers how many there were; there may be more. In the first turn a row may set a variable that wasn't set
 /// before, and isn't at hand then, so the second turn is tried too.
 #[inline(never)]
-#[tactic(auto, using(crate::proofs::Ways::no_way))]
+#[tactic(auto, using(crate::proofs::Steps::reaches_itself))]
 pub fn sweep(routines: &[Routine], core: &mut Core, may: u64) -> u64
     ensures within { result ≤ may }
     ensures led { ReachesSilently routines.now (shown routines.now core.old) result (shown routines.now core.new) }
 {
-    let Some(Held::Upward { k, bound, body }) = core.active.held.top() else {
+    let Some(OpenBrace::Upward { k, bound, body }) = core.active.braces.top() else {
         return 0;
     };
     let (k, bound, body) = (*k, *bound, *body);
@@ -482,6 +482,9 @@ pub fn sweep(routines: &[Routine], core: &mut Core, may: u64) -> u64
         return 0;
     }
     if core.active.indices.get(k) > 1 {
+        return 0;
+    }
+    if !is_straight(routines, core.active.routine, body) {
         return 0;
     }
     if atom(&core.active.ints, &core.active.indices, bound) < WORTH {

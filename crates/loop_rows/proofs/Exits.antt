@@ -6,8 +6,8 @@ use Rattle.loop_tree.specs.declared.tree.CodeLine.{CodeLine}
 use Rattle.loop_tree.specs.declared.tree.CodeLine.TheVariants as code
 use Rattle.loop_tree.specs.declared.tree.Function.{Function}
 use Rattle.loop_rows.specs.Shown.{lines_or_none, lines_in, is_else, brace, begins_choice}
-use Rattle.loop_rows.specs.declared.state.Held.{Held}
-use Rattle.loop_rows.specs.declared.state.Held.TheVariants as held
+use Rattle.loop_rows.specs.declared.state.OpenBrace.{OpenBrace}
+use Rattle.loop_rows.specs.declared.state.OpenBrace.TheVariants as open_brace
 use Rattle.loop_tree.specs.State.{State, Choice, with_rest, with_place}
 use Rattle.loop_tree.specs.Machine.{loop_end, skip_choice, rest_of, first_exit, exit_of, exits}
 use Rattle.loop_rows.specs.declared.routine.Exit.{Exit}
@@ -216,14 +216,14 @@ skip_is s (code.Close ∷ lines) = refl
 -- ---- the end of the innermost loop
 
 -- from the braces of a choice to those around it
-pub choice_passed : (lines : List CodeLine) (old new : List Held) (at outer : List CodeLine) → begins_choice old ≡ true → new ≡ rest_of old → outer ≡ first_exit (rest_of (exits at)) →
+pub choice_passed : (lines : List CodeLine) (old new : List OpenBrace) (at outer : List CodeLine) → begins_choice old ≡ true → new ≡ rest_of old → outer ≡ first_exit (rest_of (exits at)) →
     loop_end (map (brace lines) new) (exits outer) ≡ loop_end (map (brace lines) old) (exits at)
 unfolding loop_end
 choice_passed lines [] new at outer e n o = absurd cc
-choice_passed lines (held.Choice ∷ more) new at outer e n o = ap (λ (h : List Held). loop_end (map (brace lines) h) (exits outer)) n ∙ ap (loop_end (map (brace lines) more)) (ap exits o ∙ exits_at_outer at)
-choice_passed lines (held.Upward k bound body ∷ more) new at outer e n o = absurd cc
-choice_passed lines (held.Downward k body ∷ more) new at outer e n o = absurd cc
-choice_passed lines (held.Forever body ∷ more) new at outer e n o = absurd cc
+choice_passed lines (open_brace.Choice ∷ more) new at outer e n o = ap (λ (h : List OpenBrace). loop_end (map (brace lines) h) (exits outer)) n ∙ ap (loop_end (map (brace lines) more)) (ap exits o ∙ exits_at_outer at)
+choice_passed lines (open_brace.Upward k bound body ∷ more) new at outer e n o = absurd cc
+choice_passed lines (open_brace.Downward k body ∷ more) new at outer e n o = absurd cc
+choice_passed lines (open_brace.Forever body ∷ more) new at outer e n o = absurd cc
 
 pub closes_own : (at own : List CodeLine) → own ≡ exit_of at → first_exit (exits own) ≡ own
 closes_own at own e = ap first_exit (ap exits e ∙ exits_at_own at) ∙ sym e
@@ -231,11 +231,11 @@ closes_own at own e = ap first_exit (ap exits e ∙ exits_at_own at) ∙ sym e
 pub closes_outer : (at outer : List CodeLine) → outer ≡ first_exit (rest_of (exits at)) → first_exit (exits outer) ≡ outer
 closes_outer at outer e = ap first_exit (ap exits e ∙ exits_at_outer at) ∙ sym e
 
-pub at_loop : (lines : List CodeLine) (braces : List Held) (exits : List (List CodeLine)) → begins_choice braces ≡ false →
+pub at_loop : (lines : List CodeLine) (braces : List OpenBrace) (exits : List (List CodeLine)) → begins_choice braces ≡ false →
     loop_end (map (brace lines) braces) exits ≡ record { lines = first_exit exits; braces = map (brace lines) braces }
 unfolding loop_end
 at_loop lines [] exits e = refl
-at_loop lines (held.Choice ∷ more) exits e = absurd cc
-at_loop lines (held.Upward k bound body ∷ more) exits e = refl
-at_loop lines (held.Downward k body ∷ more) exits e = refl
-at_loop lines (held.Forever body ∷ more) exits e = refl
+at_loop lines (open_brace.Choice ∷ more) exits e = absurd cc
+at_loop lines (open_brace.Upward k bound body ∷ more) exits e = refl
+at_loop lines (open_brace.Downward k body ∷ more) exits e = refl
+at_loop lines (open_brace.Forever body ∷ more) exits e = refl

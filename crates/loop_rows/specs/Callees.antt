@@ -24,7 +24,7 @@ abbrev pub entered : State → ℕ → List Argument → Active
 entered s n arguments = record {
   routine = n;
   place = 0;
-  held = [];
+  braces = [];
   ints = map (int_passed s) arguments;
   indices = [];
   texts = map (text_passed s) arguments;

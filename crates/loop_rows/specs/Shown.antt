@@ -5,8 +5,8 @@ use Rattle.loop_tree.specs.declared.tree.CodeLine.TheVariants as code
 use Rattle.loop_tree.specs.declared.tree.Function.{Function}
 use Rattle.loop_tree.specs.Lines.{lines_of}
 use Rattle.loop_tree.specs.State.{Brace, Choice, Upward, Downward, Forever, Frame, State}
-use Rattle.loop_rows.specs.declared.state.Held.{Held}
-use Rattle.loop_rows.specs.declared.state.Held.TheVariants as held
+use Rattle.loop_rows.specs.declared.state.OpenBrace.{OpenBrace}
+use Rattle.loop_rows.specs.declared.state.OpenBrace.TheVariants as open_brace
 use Rattle.loop_rows.specs.declared.state.Active.{Active}
 use Rattle.loop_rows.specs.declared.state.Core.{Core}
 
@@ -18,16 +18,16 @@ lines_or_none (Some function) = lines_of function
 abbrev pub lines_in : List Function → ℕ → List CodeLine
 lines_in functions routine = lines_or_none (slice_get functions routine)
 
-abbrev pub brace : List CodeLine → Held → Brace
-brace lines held.Choice = Choice
-brace lines (held.Upward k bound body) = Upward k bound (drop body lines)
-brace lines (held.Downward k body) = Downward k (drop body lines)
-brace lines (held.Forever body) = Forever (drop body lines)
+abbrev pub brace : List CodeLine → OpenBrace → Brace
+brace lines open_brace.Choice = Choice
+brace lines (open_brace.Upward k bound body) = Upward k bound (drop body lines)
+brace lines (open_brace.Downward k body) = Downward k (drop body lines)
+brace lines (open_brace.Forever body) = Forever (drop body lines)
 
 abbrev pub frame : List Function → Active → Frame
 frame functions a = record {
   rest = drop a.place (lines_in functions a.routine);
-  braces = map (brace (lines_in functions a.routine)) a.held;
+  braces = map (brace (lines_in functions a.routine)) a.braces;
   ints = a.ints;
   indices = a.indices;
   texts = a.texts;
@@ -53,6 +53,6 @@ is_else (code.Else ∷ lines) = true
 is_else lines = false
 
 -- the innermost brace is that of a choice
-abbrev pub begins_choice : List Held → Bool
-begins_choice (held.Choice ∷ more) = true
+abbrev pub begins_choice : List OpenBrace → Bool
+begins_choice (open_brace.Choice ∷ more) = true
 begins_choice braces = false

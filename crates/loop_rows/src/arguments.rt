@@ -177,7 +177,7 @@ pub fn entered(
     let mut callee = Active {
         routine: n as usize,
         place: 0,
-        held: Stack::new(alloc),
+        braces: Stack::new(alloc),
         ints: Numbers::new(alloc),
         indices: Numbers::new(alloc),
         texts: Words::new(alloc),

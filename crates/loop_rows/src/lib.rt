@@ -11,8 +11,8 @@ mod state;
 mod values;
 
 pub use arguments::{accepts, all_usable, entered};
-pub use places::{begins_other, exit, line_at, lines_at, next, outer, past};
+pub use places::{begins_other, exit, is_straight, line_at, lines_at, next, outer, past};
 pub use routine::Routine;
 pub use rows::{change_block, gather, set_int, set_text};
-pub use state::{Active, Core, Held};
+pub use state::{Active, Core, OpenBrace};
 pub use values::atom;

@@ -35,6 +35,15 @@ pub fn line_at(routines: &[Routine], routine: usize, place: usize) -> Option<&Co
     }
 }
 
+/// Whether the lines from a place to the next brace that closes are rows that a sweep takes.
+#[inline]
+pub fn is_straight(routines: &[Routine], routine: usize, place: usize) -> bool {
+    match routines.get(routine) {
+        Some(found) => found.is_straight(place),
+        None => false,
+    }
+}
+
 /// The place of the line that closes the innermost brace that is open at a place.
 pub fn exit(routines: &[Routine], routine: usize, place: usize) -> usize
     ensures { drop result (lines_in routines.now routine) ≡ exit_of (drop place (lines_in routines.now routine)) }

@@ -4,7 +4,7 @@ ghost use Rattle.loop_tree.specs.Lines.{lines_of};
 ghost use Rattle.loop_tree.specs.Machine.{exits, exit_of, rest_of, first_exit};
 ghost use Rattle.loop_rows.specs.Exits.{opened, passed, first_exit_of, table_of};
 
-use loop_tree::{CodeLine, Function, Letter, Stack};
+use loop_tree::{BlockRow, CodeLine, ControlRow, Function, IntValue, Letter, Row, Stack};
 use sqlite_items::Items;
 use std::alloc::{AllocError, Global};
 use std::marker::Model;
@@ -24,6 +24,9 @@ pub struct Routine {
     function: Function,
     lines: Items<CodeLine>,
     exits: Items<Exit>,
+    // For each place, whether the lines from there to the next brace that closes are rows that a sweep takes. When a sweep
+    // is tried rests on it, and nothing else.
+    straight: Items<bool>,
 }
 
 impl Model for Routine {
@@ -49,10 +52,12 @@ impl Routine {
     {
         let lines = function.lines(alloc)?;
         let exits = exits_of(alloc, lines.as_slice())?;
+        let straight = straight_of(alloc, lines.as_slice())?;
         Ok(Routine {
             function,
             lines,
             exits,
+            straight,
         })
     }
 
@@ -61,6 +66,14 @@ impl Routine {
         ensures { result.now ≡ lines_of self.now }
     {
         self.lines.as_slice()
+    }
+
+    /// Whether the lines from a place to the next brace that closes are rows that a sweep takes.
+    pub fn is_straight(&self, place: usize) -> bool {
+        match self.straight.get(place) {
+            Some(straight) => *straight,
+            None => false,
+        }
     }
 
     /// The letters of the parameters.
@@ -173,4 +186,32 @@ fn exits_of(alloc: Global, lines: &[CodeLine]) -> Result<Items<Exit>, AllocError
         exits.push(innermost(end, &open))?;
     }
     Ok(exits.into_items())
+}
+
+/// A row of integers and cells alone, or f_at.
+fn is_swept(row: &Row) -> bool {
+    match row {
+        Row::Int(_, IntValue::Atom(_) | IntValue::Operation(_, _, _)) => true,
+        Row::Int(_, IntValue::Cell(_, _) | IntValue::Wrap(_)) => true,
+        Row::Block(BlockRow::StoreInt(_, _, _)) => true,
+        Row::Control(ControlRow::At(_)) => true,
+        _ => false,
+    }
+}
+
+/// For each place, whether the lines from there to the next brace that closes are rows that a sweep takes.
+fn straight_of(alloc: Global, lines: &[CodeLine]) -> Result<Items<bool>, AllocError> {
+    let mut straight = Stack::new(alloc);
+    let mut here = false;
+    let mut at = lines.len();
+    while at > 0 {
+        at -= 1;
+        here = match &lines[at] {
+            CodeLine::Close => true,
+            CodeLine::Row(row) => here && is_swept(row),
+            _ => false,
+        };
+        straight.push(here)?;
+    }
+    Ok(straight.into_items())
 }

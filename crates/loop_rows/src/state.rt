@@ -9,7 +9,7 @@ use std::alloc::Global;
 
 /// An open brace. `body` is the place of the first line of a loop's body.
 #[derive(Clone, Copy)]
-pub enum Held {
+pub enum OpenBrace {
     Choice,
     Upward { k: u32, bound: Atom, body: usize },
     Downward { k: u32, body: usize },
@@ -22,7 +22,7 @@ pub enum Held {
 pub struct Active {
     pub routine: usize,
     pub place: usize,
-    pub held: Stack<Held>,
+    pub braces: Stack<OpenBrace>,
     pub ints: Numbers,
     pub indices: Numbers,
     pub texts: Words,

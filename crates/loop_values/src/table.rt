@@ -56,7 +56,7 @@ impl<T: First> Table<T> {
 
     /// The value of a variable that stands in the list.
     #[inline]
-    pub fn listed(&self, n: u32) -> Option<&T>
+    pub fn get_dense(&self, n: u32) -> Option<&T>
         ensures { IfSome result (λ value. value.now ≡ get_or self.now n T.first) }
     {
         self.low.get(n as usize)
@@ -75,7 +75,7 @@ impl<T: First> Table<T> {
 
     /// Sets a variable that stands in the list, and answers whether it does.
     #[inline(always)]
-    pub fn set_listed(&mut self, n: u32, value: T) -> bool
+    pub fn set_dense(&mut self, n: u32, value: T) -> bool
         ensures set { IsTrue result → self.new ≡ with_at T.first self.old n value }
         ensures stays { result ≡ false → self.new ≡ self.old }
     {

@@ -65,7 +65,7 @@ impl Numbers {
     pub fn get(&self, n: u32) -> i64
         ensures { result ≡ number_at self.now n }
     {
-        match self.table.listed(n) {
+        match self.table.get_dense(n) {
             Some(value) => *value,
             None => self.look_up(n),
         }
@@ -93,10 +93,10 @@ impl Numbers {
 
     /// The value of variable n where it is at hand, as that of a small variable that was set.
     #[inline(always)]
-    pub fn at_hand(&self, n: u32) -> Option<i64>
+    pub fn get_dense(&self, n: u32) -> Option<i64>
         ensures { IfSome result (λ value. value ≡ number_at self.now n) }
     {
-        match self.table.listed(n) {
+        match self.table.get_dense(n) {
             Some(value) => Some(*value),
             None => None,
         }
@@ -104,11 +104,11 @@ impl Numbers {
 
     /// Sets variable n where it is at hand, and answers whether it is.
     #[inline(always)]
-    pub fn set_at_hand(&mut self, n: u32, value: i64) -> bool
+    pub fn set_dense(&mut self, n: u32, value: i64) -> bool
         ensures set { IsTrue result → self.new ≡ with_at (pos 0) self.old n value }
         ensures stays { result ≡ false → self.new ≡ self.old }
     {
-        self.table.set_listed(n, value)
+        self.table.set_dense(n, value)
     }
 
     /// Sets the variable behind the last one.

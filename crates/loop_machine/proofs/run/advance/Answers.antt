@@ -5,8 +5,8 @@ use Rattle.loop_machine.specs.declared.end.End.{End}
 use Rattle.loop_machine.specs.declared.end.End.TheVariants as end
 use Rattle.loop_rows.specs.Shown.{shown, lines_in}
 use Rattle.loop_machine.specs.Steps.{Advances, Passed}
-use Rattle.loop_machine.proofs.Ways.{advances_none, then_step, silent_step, step_lessens_left}
-use Rattle.loop_machine.proofs.Answering.{then_runs}
+use Rattle.loop_machine.proofs.Steps.{advances_none, then_step, silent_step, step_lessens_left}
+use Rattle.loop_machine.proofs.Runs.{then_runs}
 use Rattle.loop_machine.proofs.run.advance.Goals as goal
 
 positive : (n : ℕ) → nat_lt 0 n ≡ true → 0 < n

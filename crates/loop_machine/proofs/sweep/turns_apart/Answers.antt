@@ -9,7 +9,7 @@ use Rattle.loop_machine.specs.Steps.{ReachesSilently}
 use Rattle.loop_machine.specs.Plans.{IsSettled, assembled, placed, row_of}
 use Rattle.loop_machine.proofs.Variables.{set_same}
 use Rattle.loop_rows.proofs.Exits.{drop_next}
-use Rattle.loop_machine.proofs.Ways.{no_way, step_on}
+use Rattle.loop_machine.proofs.Steps.{reaches_itself, step_on}
 use Rattle.loop_machine.proofs.Plans.{first_at}
 use Rattle.loop_machine.proofs.Turns.{row_leads}
 use Rattle.loop_machine.proofs.sweep.turns_apart.Goals as goal
@@ -23,11 +23,11 @@ loop-row-init c =
     let all : length plan - length plan ≡ 0 = omega arith in
     record {
       within = omega arith;
-      led = subst (λ (i : ℕ). ReachesSilently fs (shown fs core) 0 (shown fs (placed core i))) none (no_way fs (shown fs core));
+      led = subst (λ (i : ℕ). ReachesSilently fs (shown fs core) 0 (shown fs (placed core i))) none (reaches_itself fs (shown fs core));
       rows = omega arith;
       behind = ap (λ (i : ℕ). drop i plan) all;
       routine = refl;
-      held = refl;
+      braces = refl;
       line = refl;
       int_blocks = refl;
       own = search rules;
@@ -67,7 +67,7 @@ loop-row-preserved-in-Some c =
       rows = omega arith;
       behind = ap (λ (i : ℕ). drop i plan) later ∙ drop_next plan at p more here;
       routine = there.routine;
-      held = there.held;
+      braces = there.braces;
       line = there.line;
       int_blocks = there.int_blocks;
       own = there.own;
@@ -106,7 +106,7 @@ loop-row-preserved c =
       rows = omega arith;
       behind = ap (λ (i : ℕ). drop i plan) all;
       routine = ap (λ (core : Core). core.active.routine) begun ∙ there.routine;
-      held = ap (λ (core : Core). core.active.held) begun ∙ there.held;
+      braces = ap (λ (core : Core). core.active.braces) begun ∙ there.braces;
       line = ap (λ (core : Core). core.active.line) begun ∙ there.line;
       int_blocks = ap (λ (core : Core). core.active.int_blocks) begun ∙ there.int_blocks;
       own = sym (set_same c.loop-row.core.active.indices c.args.k _) ∙ sym (ap (λ (core : Core). number_at core.active.indices c.args.k) begun);

@@ -12,7 +12,7 @@ invariant-loop-row l = record {
   rows : length l.rest ≤ length l.plan;
   behind : drop (length l.plan - length l.rest) l.plan ≡ l.rest;
   routine : l.core.active.routine ≡ l.fn.core.active.routine;
-  held : l.core.active.held ≡ l.fn.core.active.held;
+  braces : l.core.active.braces ≡ l.fn.core.active.braces;
   line : l.core.active.line ≡ l.fn.core.active.line;
   int_blocks : l.core.active.int_blocks ≡ l.fn.core.active.int_blocks;
   own : l.own ≡ number_at l.core.active.indices l.k;

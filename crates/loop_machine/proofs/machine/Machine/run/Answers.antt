@@ -2,7 +2,7 @@ use Rattle.std.proofs.Common.{subst, List}
 use Rattle.loop_tree.specs.declared.tree.Function.{Function}
 use Rattle.loop_rows.specs.Shown.{shown}
 use Rattle.loop_machine.specs.Running.{Running, RunsTo}
-use Rattle.loop_machine.proofs.Answering.{runs_decide}
+use Rattle.loop_machine.proofs.Runs.{runs_decide}
 use Rattle.loop_machine.proofs.machine.Machine.run.Goals as goal
 
 pub returns-clause-runs : goal.returns-clause-runs

@@ -2,7 +2,7 @@ use Rattle.std.proofs.Common.{arith}
 use Rattle.std.proofs.lemmas.Grind.{common_steps}
 use Rattle.loop_tree.specs.Machine.{store_int}
 use Rattle.loop_heap.proofs.Slots.{changed_blocks, rising_set}
-use Rattle.loop_heap.proofs.blocks.Blocks.store_at_hand.Goals as goal
+use Rattle.loop_heap.proofs.blocks.Blocks.store_at_hint.Goals as goal
 
 pub invariant_of-self : goal.invariant_of-self
 invariant_of-self c = rising_set 0 c.self.inside.made c.self.inside.slots.items c.in-Some.at c.index_mut.result.now _ c.self.invariant c.index_mut.ensures.value c.store_int.ensures.number

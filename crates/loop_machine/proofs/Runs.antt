@@ -21,7 +21,7 @@ use Rattle.loop_heap.specs.declared.halt.Halt.TheVariants as halt
 use Rattle.loop_rows.specs.Rows.{HaltsSo}
 use Rattle.loop_machine.specs.Running.{outcome_of, halted, Writes, Waits, WritesPrefix, ComesTo, RunsTo, Answers}
 use Rattle.loop_machine.specs.Steps.{Advances}
-use Rattle.loop_machine.proofs.Ways.{one_way, then_way}
+use Rattle.loop_machine.proofs.Steps.{reaches_by_step, reaches_then}
 
 -- the first function's lines come first
 pub started : (functions : List Function) → drop 0 (lines_in functions 0) ≡ lines_at_start functions
@@ -73,7 +73,7 @@ module _ (functions : List Function) where
   unwritten from turns old new k = prefix_appended from turns 0 [] from old new (omega arith) (stays functions (begin from)) (kept_front old new [] k)
 
   pub cut_short : (from to : State) (turns : ℕ) (written : List ℕ) (old new : Option (List ℕ)) → step functions from ≡ Goes false written to → AppendsPrefix old new written → WritesPrefix functions from turns old new
-  cut_short from to turns written old new e a = prefix_appended from turns 0 written to old new (omega arith) (one_way functions from to false written e) a
+  cut_short from to turns written old new e a = prefix_appended from turns 0 written to old new (omega arith) (reaches_by_step functions from to false written e) a
 
   pub waits_here : (from to : State) (turns : ℕ) (bytes : Option (List ℕ)) → turns ≡ 0 → to ≡ from → begins_turn (step functions from) ≡ true → Waits functions from turns to bytes bytes
   waits_here from to turns bytes none same e =
@@ -91,7 +91,7 @@ module _ (functions : List Function) where
       let within = f.within in
       record {
         last = configuration (used + f.last.turns) (first ++ f.last.written) f.last.state;
-        leads = then_way functions from mid f.last.state used f.last.turns first f.last.written way f.leads;
+        leads = reaches_then functions from mid f.last.state used f.last.turns first f.last.written way f.leads;
         within = omega arith;
         output = ap (λ (w : List ℕ). first ++ w) f.output;
         ends = f.ends;
@@ -99,7 +99,7 @@ module _ (functions : List Function) where
   runs_then from mid used left first written Going way f =
       record {
         last = configuration (used + f.last.turns) (first ++ f.last.written) f.last.state;
-        leads = then_way functions from mid f.last.state used f.last.turns first f.last.written way f.leads;
+        leads = reaches_then functions from mid f.last.state used f.last.turns first f.last.written way f.leads;
         spent = ap (λ (n : ℕ). used + n) f.spent;
         output = ap (λ (w : List ℕ). first ++ w) f.output;
         waits = f.waits;
@@ -118,7 +118,7 @@ module _ (functions : List Function) where
         written = a.written ++ f.written;
         runs = record {
           last = configuration (used + f.runs.last.turns) (a.written ++ f.runs.last.written) f.runs.last.state;
-          leads = then_way functions from mid f.runs.last.state used f.runs.last.turns a.written f.runs.last.written a.reaches f.runs.leads;
+          leads = reaches_then functions from mid f.runs.last.state used f.runs.last.turns a.written f.runs.last.written a.reaches f.runs.leads;
           spent = ap (λ (n : ℕ). used + n) f.runs.spent;
           output = ap (λ (w : List ℕ). a.written ++ w) f.runs.output;
           waits = f.runs.waits;
