@@ -1,5 +1,6 @@
 -- Blocks in the order in which they were made, some of which were freed.
-use Rattle.std.specs.Prelude.{◌≡◌, ℕ, zero, suc, ◌+◌, ◌<◌, ◌≤◌, Bool, is_some, List, [], ◌∷◌, ◌++◌, length, get_or, Option, None, Some, Result, Ok, Err}
+use Rattle.std.specs.Prelude.{◌≡◌, ℕ, zero, suc, ◌+◌, ◌<◌, ◌≤◌, Bool, is_some, List, [], ◌∷◌, ◌++◌, length, get_or, Option, None}
+use Rattle.std.specs.Prelude.{Some, Result, Ok, Err}
 use Rattle.loop_tree.specs.declared.stuck.StuckState.{StuckState}
 use Rattle.loop_tree.specs.declared.stuck.StuckState.TheVariants as stuck
 use Rattle.loop_tree.specs.State.{Cells, Block, cells_at, cells_or_stuck}
@@ -29,7 +30,9 @@ IsRising low top (k ∷ ks) = (low ≤ k.number) × IsRising (k.number + 1) top 
 
 -- other cells, where there are some
 abbrev pub changed_slot : Kept → (Cells → Result Cells StuckState) → Result Kept StuckState
-changed_slot k change = and_then (cells_or_stuck k.cells) (λ cells. and_then (change cells) (λ new. Ok (record { number = k.number; cells = Some new })))
+changed_slot k change =
+    and_then (cells_or_stuck k.cells)
+    (λ cells. and_then (change cells) (λ new. Ok (record { number = k.number; cells = Some new })))
 
 -- the place of the block that a reference leads to, past the end where it leads to none that lives
 pub record IsPlace (slots : List Kept) (link : Option ℕ) (at : ℕ) : Type 0 where

@@ -1,8 +1,10 @@
 //! Blocks of cells: made and freed, read and set by references.
-ghost use Rattle.std.specs.Prelude.{◌≡◌, ◌≤◌, ◌<◌, pos, [], IfOk, IfErr, IfSome, Some, IsSome, IsTrue, OnOk, OnErr, is_ok, false, filter, length, slice_get, take};
+ghost use Rattle.std.specs.Prelude.{◌≡◌, ◌≤◌, ◌<◌, pos, [], IfOk, IfErr, IfSome, Some, IsSome, IsTrue, OnOk, OnErr, is_ok, false};
+ghost use Rattle.std.specs.Prelude.{filter, length, slice_get, take};
 ghost use Rattle.std.specs.Option.{option_copied};
 ghost use Rattle.loop_tree.specs.State.{cells_at, cells_or_stuck, made_before};
-ghost use Rattle.loop_tree.specs.Values.{and_then, ints_at, texts_at, int_cell, text_cell, cell_count, grown, is_live, zeros, texts_of_length};
+ghost use Rattle.loop_tree.specs.Values.{and_then, ints_at, texts_at, int_cell, text_cell, cell_count, grown, is_live, zeros};
+ghost use Rattle.loop_tree.specs.Values.{texts_of_length};
 ghost use Rattle.loop_tree.specs.Machine.{changed, store_int, store_text, freed};
 ghost use Rattle.loop_heap.specs.Halts.{IfStuck};
 ghost use Rattle.loop_heap.specs.Heap.{with_made};
@@ -78,7 +80,8 @@ impl Blocks {
     /// Cell i of a block of integers, where the block is where it was when the reference was made.
     #[inline(always)]
     pub fn cell_at_hint(&self, link: &Link, i: i64) -> Option<i64>
-        ensures { IfSome result (λ value. and_then (ints_at self.now.blocks (Some link.now)) (λ cells. int_cell cells i) ≡ Ok value) }
+        ensures { IfSome result
+            (λ value. and_then (ints_at self.now.blocks (Some link.now)) (λ cells. int_cell cells i) ≡ Ok value) }
     {
         let Some(slot) = slot_at_hint(&self.slots, self.made, link) else {
             return None;

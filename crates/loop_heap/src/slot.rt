@@ -1,7 +1,8 @@
 //! Where blocks stand: a slot has the number of its block, and the cells while the block lives.
 ghost use Rattle.std.specs.Prelude.{◌≡◌, ◌++◌, pos, IfOk, IfErr, OnOk, OnErr, length, take, replicate};
 ghost use Rattle.loop_tree.specs.State.{Ints, Texts, cells_or_stuck};
-ghost use Rattle.loop_tree.specs.Values.{and_then, ints_of, texts_of, int_cell, text_cell, stored, cell_count, size_within, grown, zeros, texts_of_length};
+ghost use Rattle.loop_tree.specs.Values.{and_then, ints_of, texts_of, int_cell, text_cell, stored, cell_count, size_within};
+ghost use Rattle.loop_tree.specs.Values.{grown, zeros, texts_of_length};
 ghost use Rattle.loop_tree.specs.Machine.{store_int, store_text};
 ghost use Rattle.loop_heap.specs.Slots.{changed_slot, is_living};
 ghost use Rattle.loop_heap.specs.Halts.{IfStuck};
@@ -72,8 +73,10 @@ impl Slot {
     }
 
     pub fn text_cell(&self, i: i64) -> Result<&[u8], StuckState>
-        ensures ok { IfOk result (λ text. and_then (and_then (cells_or_stuck self.now.cells) texts_of) (λ cells. text_cell cells i) ≡ Ok text.now) }
-        ensures err { IfErr result (λ why. and_then (and_then (cells_or_stuck self.now.cells) texts_of) (λ cells. text_cell cells i) ≡ Err why) }
+        ensures ok { IfOk result
+            (λ text. and_then (and_then (cells_or_stuck self.now.cells) texts_of) (λ cells. text_cell cells i) ≡ Ok text.now) }
+        ensures err { IfErr result
+            (λ why. and_then (and_then (cells_or_stuck self.now.cells) texts_of) (λ cells. text_cell cells i) ≡ Err why) }
     {
         match &self.contents {
             Contents::Texts(cells) => read_text(cells, i),

@@ -15,7 +15,8 @@ use Rattle.loop_machine.specs.declared.moves.Move.TheVariants as move
 abbrev pub Did : Next → Bool → List Function → Core → Core → Move → Type 0
 Did next may functions old new move.Quiet = next ≡ Goes false [] (shown functions new)
 Did next may functions old new move.Turn = (may ≡ true) × (next ≡ Goes true [] (shown functions new))
-Did next may functions old new move.Record = next ≡ Goes false (record_text new.pending ++ 10 ∷ []) (without_record (shown functions new))
+Did next may functions old new move.Record =
+    next ≡ Goes false (record_text new.pending ++ 10 ∷ []) (without_record (shown functions new))
 Did next may functions old new move.Waits = (may ≡ false) × (new ≡ old) × (begins_turn next ≡ true)
 Did next may functions old new move.Ended = next ≡ Ends (Comes Ended)
 Did next may functions old new move.Fault = next ≡ Ends (Comes (Faulted new.fault new.active.line))

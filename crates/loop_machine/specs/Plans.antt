@@ -56,8 +56,10 @@ int_value_of (value.Same v) = same_value v
 
 -- what a variable is set to, where the variables have these values
 abbrev pub found_in : List ℤ → List ℤ → Value → Result ℤ StuckState
-found_in ints indices (value.Sum a b) = operation operator.Add (atom_in ints indices (atom_of_operand a)) (atom_in ints indices (atom_of_operand b))
-found_in ints indices (value.Operation a op b) = operation op (atom_in ints indices (atom_of_operand a)) (atom_in ints indices (atom_of_operand b))
+found_in ints indices (value.Sum a b) =
+    operation operator.Add (atom_in ints indices (atom_of_operand a)) (atom_in ints indices (atom_of_operand b))
+found_in ints indices (value.Operation a op b) =
+    operation op (atom_in ints indices (atom_of_operand a)) (atom_in ints indices (atom_of_operand b))
 found_in ints indices (value.Same (same.Atom a)) = Ok (atom_in ints indices (atom_of_operand a))
 found_in ints indices (value.Same (same.Wrap a)) = Ok (wrapped (atom_in ints indices (atom_of_operand a)))
 
@@ -99,7 +101,8 @@ IsSettled references line (planned.Plain r) = AtLine line r
 -- each stands for a line, from a place on
 abbrev pub Plans : List (Option ℕ) → ℕ → ℕ → List CodeLine → ℕ → List Planned → Type 0
 Plans references line k lines from plan =
-    (i : ℕ) (p : Planned) → slice_get plan i ≡ Some p → (slice_get lines (from + i) ≡ Some (code.Row (row_of k p))) × IsSettled references line p
+    (i : ℕ) (p : Planned) → slice_get plan i ≡ Some p → (slice_get lines (from + i) ≡ Some (code.Row (row_of k p))) ×
+    IsSettled references line p
 
 -- a machine with these integers and blocks in place of its own: all that such rows change
 abbrev pub assembled : Core → List ℤ → Heap → Core

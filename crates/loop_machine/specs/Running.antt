@@ -38,7 +38,8 @@ halted (halt.Stuck why) = end.Stuck why
 halted halt.Memory = end.Memory
 
 -- from a state on, with so many turns, the program has this outcome, and all that it writes was appended
-pub record Writes (functions : List Function) (from : State) (turns : ℕ) (outcome : Outcome state.End) (old new : Option (List ℕ)) : Type 0 where
+pub record Writes (functions : List Function) (from : State) (turns : ℕ) (outcome : Outcome state.End)
+    (old new : Option (List ℕ)) : Type 0 where
   pub written : List ℕ
   pub runs : Runs functions (configuration 0 [] from) turns written outcome
   pub appended : Appends old new written

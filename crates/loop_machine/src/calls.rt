@@ -18,7 +18,8 @@ pub fn call(
     arguments: &[Argument],
     may: bool,
 ) -> Move
-    ensures { Did (call_line routines.now (shown routines.now core.old) n arguments.now) may routines.now core.old core.new result }
+    ensures { Did (call_line routines.now (shown routines.now core.old) n arguments.now) may routines.now core.old core.new
+        result }
 {
     if !all_usable(routines, core, arguments) {
         return halts(core, Halt::Stuck(StuckState::NoBlock));

@@ -3,7 +3,9 @@
 ghost use Rattle.std.specs.Prelude.{◌≡◌, ◌∷◌, ◌+◌, ◌<◌, ◌^◌, [], drop, OnSome, map, IfOk, OnOk, MatchOption, pos, int_lt, int_le};
 ghost use Rattle.loop_tree.specs.State.{set_index, with_at};
 ghost use Rattle.loop_tree.specs.Values.{number_at, atom_in, atom_of};
-ghost use Rattle.loop_tree.specs.Machine.{leave, if_line, skip_choice, else_line, begin_loop, again, at_line, for_up_line, for_down_line, forever_line, close_line, break_line, continue_line, exits, exit_of, behind, rest_of, first_exit, loop_end};
+ghost use Rattle.loop_tree.specs.Machine.{leave, if_line, skip_choice, else_line, begin_loop, again, at_line, for_up_line};
+ghost use Rattle.loop_tree.specs.Machine.{for_down_line, forever_line, close_line, break_line, continue_line, exits, exit_of};
+ghost use Rattle.loop_tree.specs.Machine.{behind, rest_of, first_exit, loop_end};
 ghost use Rattle.loop_rows.specs.Shown.{lines_in, brace, shown, is_else, begins_choice};
 ghost use Rattle.loop_machine.specs.Moves.{Did};
 
@@ -54,7 +56,9 @@ pub fn choose(routines: &[Routine], core: &mut Core, test: i64, may: bool) -> Mo
 #[tactic(auto, using(loop_rows::proofs::Exits::skip_is))]
 /// A test that fails leads to the other branch, or behind the closing brace.
 fn skip(routines: &[Routine], core: &mut Core) -> Result<(), AllocError>
-    ensures { OnOk result (shown routines.now core.new ≡ skip_choice (shown routines.now core.old) (exit_of (drop core.old.active.place (lines_in routines.now core.old.active.routine)))) }
+    ensures { OnOk result
+        (shown routines.now core.new ≡ skip_choice (shown routines.now core.old)
+        (exit_of (drop core.old.active.place (lines_in routines.now core.old.active.routine)))) }
 {
     let place = exit(routines, core.active.routine, core.active.place);
     if begins_other(routines, core.active.routine, place) {
@@ -97,7 +101,8 @@ pub fn begin_forever(routines: &[Routine], core: &mut Core, may: bool) -> Move
 #[inline(always)]
 #[tactic(auto, using(crate::proofs::Variables::set_same, crate::proofs::Variables::set_other))]
 pub fn is_below(ints: &Numbers, indices: &Numbers, k: u32, bound: Atom, value: i64) -> bool
-    ensures { result ≡ int_lt (number_at (with_at (pos 0) indices.now k value) k) (atom_in ints.now (with_at (pos 0) indices.now k value) bound) }
+    ensures { result ≡ int_lt (number_at (with_at (pos 0) indices.now k value) k)
+        (atom_in ints.now (with_at (pos 0) indices.now k value) bound) }
 {
     let limit = match bound {
         Atom::Int(n) => ints.get(n),
@@ -127,7 +132,8 @@ fn begin(
     opened: OpenBrace,
     may: bool,
 ) -> Move
-    ensures { Did (begin_loop (set_index (shown routines.now core.old) k value) goes (brace (lines_in routines.now core.old.active.routine) opened)) may routines.now core.old core.new result }
+    ensures { Did (begin_loop (set_index (shown routines.now core.old) k value) goes
+        (brace (lines_in routines.now core.old.active.routine) opened)) may routines.now core.old core.new result }
 {
     if !goes {
         if core.active.indices.set(k, value).is_err() {
@@ -186,7 +192,10 @@ fn repeat(
     body: usize,
     may: bool,
 ) -> Move
-    ensures { Did (again (set_index (shown routines.now core.old) k value) goes (drop body (lines_in routines.now core.old.active.routine)) (map (brace (lines_in routines.now core.old.active.routine)) (rest_of core.old.active.braces))) may routines.now core.old core.new result }
+    ensures { Did (again (set_index (shown routines.now core.old) k value) goes
+        (drop body (lines_in routines.now core.old.active.routine))
+        (map (brace (lines_in routines.now core.old.active.routine)) (rest_of core.old.active.braces))) may routines.now core.old
+        core.new result }
 {
     let _ = routines;
     if !goes {
@@ -209,7 +218,9 @@ fn repeat(
 /// `}`
 #[tactic(auto, unfolding(loop_tree::specs::Machine::close_line))]
 pub fn close(routines: &[Routine], core: &mut Core, may: bool) -> Move
-    ensures { Did (close_line (shown routines.now core.old) (map (brace (lines_in routines.now core.old.active.routine)) core.old.active.braces)) may routines.now core.old core.new result }
+    ensures { Did (close_line (shown routines.now core.old)
+        (map (brace (lines_in routines.now core.old.active.routine)) core.old.active.braces)) may routines.now core.old core.new
+        result }
 {
     let Some(opened) = core.active.braces.top() else {
         return leave(routines, core, may);
@@ -256,8 +267,12 @@ fn loop_close(
     place: usize,
     braces: &mut Stack<OpenBrace>,
 ) -> usize
-    ensures lines { drop result (lines_in routines.now routine) ≡ (loop_end (map (brace (lines_in routines.now routine)) braces.old) (exits (drop place (lines_in routines.now routine)))).lines }
-    ensures braces { map (brace (lines_in routines.now routine)) braces.new ≡ (loop_end (map (brace (lines_in routines.now routine)) braces.old) (exits (drop place (lines_in routines.now routine)))).braces }
+    ensures lines { drop result (lines_in routines.now routine)
+        ≡ (loop_end (map (brace (lines_in routines.now routine)) braces.old)
+        (exits (drop place (lines_in routines.now routine)))).lines }
+    ensures braces { map (brace (lines_in routines.now routine)) braces.new
+        ≡ (loop_end (map (brace (lines_in routines.now routine)) braces.old)
+        (exits (drop place (lines_in routines.now routine)))).braces }
 {
     let mut closing = exit(routines, routine, place);
     while is_choice(braces) {
@@ -270,7 +285,9 @@ fn loop_close(
 /// `break;`
 #[tactic(auto, unfolding(loop_tree::specs::Machine::break_line))]
 pub fn leave_loop(routines: &[Routine], core: &mut Core, may: bool) -> Move
-    ensures { Did (break_line (shown routines.now core.old) (loop_end (shown routines.now core.old).now.braces (exits (shown routines.now core.old).now.rest))) may routines.now core.old core.new result }
+    ensures { Did (break_line (shown routines.now core.old)
+        (loop_end (shown routines.now core.old).now.braces (exits (shown routines.now core.old).now.rest))) may routines.now
+        core.old core.new result }
 {
     let _ = may;
     let closing = loop_close(
@@ -287,7 +304,9 @@ pub fn leave_loop(routines: &[Routine], core: &mut Core, may: bool) -> Move
 /// `continue;`
 #[tactic(auto, unfolding(loop_tree::specs::Machine::continue_line))]
 pub fn next_iteration(routines: &[Routine], core: &mut Core, may: bool) -> Move
-    ensures { Did (continue_line (shown routines.now core.old) (loop_end (shown routines.now core.old).now.braces (exits (shown routines.now core.old).now.rest))) may routines.now core.old core.new result }
+    ensures { Did (continue_line (shown routines.now core.old)
+        (loop_end (shown routines.now core.old).now.braces (exits (shown routines.now core.old).now.rest))) may routines.now
+        core.old core.new result }
 {
     let _ = may;
     core.active.place = loop_close(

@@ -96,9 +96,12 @@ impl Machine {
     /// on with new turns, as one run with all of them; behind any other end it answers that end again.
     pub fn run<K: Sink>(&mut self, turns: u128, sink: &mut K) -> End
         // What the answer says of the run of the program.
-        ensures runs { self.old.ended ≡ None → RunsTo self.old.functions self.old.state turns result self.new.state (K.written sink.old) (K.written sink.new) }
+        ensures runs { self.old.ended ≡ None →
+            RunsTo self.old.functions self.old.state turns result self.new.state (K.written sink.old) (K.written sink.new) }
         // And what the run says of the answer.
-        ensures decided { self.old.ended ≡ None → (written : List ℕ) (outcome : Outcome state.End) → Runs self.old.functions (configuration 0 [] self.old.state) turns written outcome → Answers outcome written result (K.written sink.old) (K.written sink.new) }
+        ensures decided { self.old.ended ≡ None → (written : List ℕ) (outcome : Outcome state.End) →
+            Runs self.old.functions (configuration 0 [] self.old.state) turns written outcome →
+            Answers outcome written result (K.written sink.old) (K.written sink.new) }
         ensures ended { self.old.ended ≡ None → self.new.ended ≡ left_by result }
         ensures functions { self.new.functions ≡ self.old.functions }
         // An end is answered again, and nothing is done.

@@ -57,7 +57,8 @@ fn operated_else(x: i64, op: Operator, y: i64) -> Option<i64>
 /// `iN = A op A;`, where the atoms have these values.
 #[inline(always)]
 fn operate(routines: &[Routine], core: &mut Core, n: u32, x: i64, op: Operator, y: i64) -> bool
-    ensures led { IsTrue result → given (operation op x y) (set_int (shown routines.now core.old) n) ≡ Goes false [] (shown routines.now core.new) }
+    ensures led { IsTrue result → given (operation op x y) (set_int (shown routines.now core.old) n)
+        ≡ Goes false [] (shown routines.now core.new) }
     ensures stays { result ≡ false → core.new ≡ core.old }
     ensures routine { core.new.active.routine ≡ core.old.active.routine }
 {
@@ -70,7 +71,9 @@ fn operate(routines: &[Routine], core: &mut Core, n: u32, x: i64, op: Operator, 
 /// `iN = bN[A];`, where the reference and the index have these values.
 #[inline(always)]
 fn load(routines: &[Routine], core: &mut Core, n: u32, link: Option<Link>, at: i64) -> bool
-    ensures led { IsTrue result → given (and_then (ints_at (shown routines.now core.old).blocks link) (λ cells. int_cell cells at)) (set_int (shown routines.now core.old) n) ≡ Goes false [] (shown routines.now core.new) }
+    ensures led { IsTrue result →
+        given (and_then (ints_at (shown routines.now core.old).blocks link) (λ cells. int_cell cells at))
+        (set_int (shown routines.now core.old) n) ≡ Goes false [] (shown routines.now core.new) }
     ensures stays { result ≡ false → core.new ≡ core.old }
     ensures routine { core.new.active.routine ≡ core.old.active.routine }
 {
@@ -84,7 +87,8 @@ fn load(routines: &[Routine], core: &mut Core, n: u32, link: Option<Link>, at: i
 #[inline(always)]
 #[tactic(auto, unfolding(loop_tree::specs::Machine::change_line))]
 fn store(routines: &[Routine], core: &mut Core, link: Option<Link>, at: i64, value: i64) -> bool
-    ensures led { IsTrue result → change_line (shown routines.now core.old) link (store_int at value) ≡ Goes false [] (shown routines.now core.new) }
+    ensures led { IsTrue result → change_line (shown routines.now core.old) link (store_int at value)
+        ≡ Goes false [] (shown routines.now core.new) }
     ensures stays { result ≡ false → core.new ≡ core.old }
     ensures routine { core.new.active.routine ≡ core.old.active.routine }
 {
@@ -96,7 +100,8 @@ fn store(routines: &[Routine], core: &mut Core, link: Option<Link>, at: i64, val
 #[inline(never)]
 #[tactic(auto, unfolding(loop_tree::specs::Machine::int_line, loop_tree::specs::Values::int_value))]
 fn assign(routines: &[Routine], core: &mut Core, n: u32, value: &IntValue) -> bool
-    ensures led { IsTrue result → int_line (shown routines.now core.old) n value.now ≡ Goes false [] (shown routines.now core.new) }
+    ensures led { IsTrue result → int_line (shown routines.now core.old) n value.now
+        ≡ Goes false [] (shown routines.now core.new) }
     ensures stays { result ≡ false → core.new ≡ core.old }
     ensures routine { core.new.active.routine ≡ core.old.active.routine }
 {
@@ -115,7 +120,8 @@ fn assign(routines: &[Routine], core: &mut Core, n: u32, value: &IntValue) -> bo
 #[inline(always)]
 #[tactic(auto, unfolding(loop_tree::specs::Machine::row_line, loop_tree::specs::Machine::int_line, loop_tree::specs::Machine::block_line, loop_tree::specs::Values::int_value))]
 fn row(routines: &[Routine], core: &mut Core, row: &Row) -> bool
-    ensures led { IsTrue result → row_line routines.now (shown routines.now core.old) row.now ≡ Goes false [] (shown routines.now core.new) }
+    ensures led { IsTrue result → row_line routines.now (shown routines.now core.old) row.now
+        ≡ Goes false [] (shown routines.now core.new) }
     ensures stays { result ≡ false → core.new ≡ core.old }
     ensures routine { core.new.active.routine ≡ core.old.active.routine }
 {
@@ -168,7 +174,8 @@ pub fn next_row(routines: &[Routine], lines: &[CodeLine], core: &mut Core) -> bo
 #[tactic(auto, unfolding(loop_tree::specs::Machine::step, loop_tree::specs::Machine::step_at, loop_tree::specs::Machine::do_line, loop_tree::specs::Machine::close_line), using(loop_rows::proofs::Exits::drop_some))]
 pub fn next_turn(routines: &[Routine], lines: &[CodeLine], core: &mut Core, may: bool) -> bool
     requires { lines.now ≡ lines_in routines.now core.old.active.routine }
-    ensures led { IsTrue result → (may ≡ true) × (step routines.now (shown routines.now core.old) ≡ Goes true [] (shown routines.now core.new)) }
+    ensures led { IsTrue result → (may ≡ true) ×
+        (step routines.now (shown routines.now core.old) ≡ Goes true [] (shown routines.now core.new)) }
     ensures stays { result ≡ false → core.new ≡ core.old }
 {
     let _ = routines;

@@ -31,7 +31,8 @@ fn with_line_feed(alloc: Global, text: &[u8]) -> Result<Vec<u8>, AllocError>
 fn write_record<K: Sink>(core: &mut Core, sink: &mut K) -> Result<(), PutFault>
     ensures emptied { OnOk result (core.new ≡ record core.old { pending = [] }) }
     ensures appended { OnOk result (Appends (K.written sink.old) (K.written sink.new) (record_text core.old.pending ++ 10 ∷ [])) }
-    ensures cut_short { IsErrOf result PutFault.Failed → AppendsPrefix (K.written sink.old) (K.written sink.new) (record_text core.old.pending ++ 10 ∷ []) }
+    ensures cut_short { IsErrOf result PutFault.Failed →
+        AppendsPrefix (K.written sink.old) (K.written sink.new) (record_text core.old.pending ++ 10 ∷ []) }
     ensures unwritten { IsErrOf result PutFault.Memory → Keeps (K.written sink.old) (K.written sink.new) }
     ensures later { K.faults sink.old ≤ K.faults sink.new }
     ensures counted { IsErrOf result PutFault.Failed → Rose (K.faults sink.old) (K.faults sink.new) }
@@ -59,7 +60,8 @@ fn pass<K: Sink>(
     left: u128,
     sink: &mut K,
 ) -> Result<bool, End>
-    ensures passed { Passed routines.now (shown routines.now core.old) (shown routines.now core.new) left result (K.written sink.old) (K.written sink.new) }
+    ensures passed { Passed routines.now (shown routines.now core.old) (shown routines.now core.new) left result
+        (K.written sink.old) (K.written sink.new) }
     ensures later { K.faults sink.old ≤ K.faults sink.new }
     ensures counted { IsErrOf result End.WriteFault → Rose (K.faults sink.old) (K.faults sink.new) }
     ensures same { result ≢ Err End.WriteFault → K.faults sink.new ≡ K.faults sink.old }
@@ -93,7 +95,8 @@ fn advance<K: Sink>(
     left: u128,
     sink: &mut K,
 ) -> Result<(), End>
-    ensures advanced { Advanced routines.now (shown routines.now core.old) (shown routines.now core.new) left result (K.written sink.old) (K.written sink.new) }
+    ensures advanced { Advanced routines.now (shown routines.now core.old) (shown routines.now core.new) left result
+        (K.written sink.old) (K.written sink.new) }
     ensures later { K.faults sink.old ≤ K.faults sink.new }
     ensures counted { IsErrOf result End.WriteFault → Rose (K.faults sink.old) (K.faults sink.new) }
     ensures same { result ≢ Err End.WriteFault → K.faults sink.new ≡ K.faults sink.old }
@@ -127,7 +130,8 @@ fn counted(turns: u128) -> u64
 /// Steps with so many turns.
 #[inline(never)]
 pub fn go<K: Sink>(routines: &[Routine], core: &mut Core, turns: u128, sink: &mut K) -> End
-    ensures runs { RunsTo routines.now (shown routines.now core.old) turns result (shown routines.now core.new) (K.written sink.old) (K.written sink.new) }
+    ensures runs { RunsTo routines.now (shown routines.now core.old) turns result (shown routines.now core.new)
+        (K.written sink.old) (K.written sink.new) }
     ensures later { K.faults sink.old ≤ K.faults sink.new }
     ensures counted { result ≡ End.WriteFault → Rose (K.faults sink.old) (K.faults sink.new) }
     ensures same { result ≢ End.WriteFault → K.faults sink.new ≡ K.faults sink.old }

@@ -1,7 +1,8 @@
 //! Turns of a loop whose body has rows of integers and cells alone. The rows are read once for all turns, with the
 //! references of their blocks.
 //! Where one of them doesn't lead on, or no turn follows, the step that any line takes finds out what comes then.
-ghost use Rattle.std.specs.Prelude.{◌≡◌, ◌≤◌, ◌<◌, ◌+◌, ◌^◌, ◌+ℤ◌, pos, int_lt, [], ◌∷◌, length, slice_get, Some, Ok, IsTrue, true, false, IfSome};
+ghost use Rattle.std.specs.Prelude.{◌≡◌, ◌≤◌, ◌<◌, ◌+◌, ◌^◌, ◌+ℤ◌, pos, int_lt, [], ◌∷◌, length, slice_get, Some, Ok, IsTrue};
+ghost use Rattle.std.specs.Prelude.{true, false, IfSome};
 ghost use Rattle.std.specs.Int.{w64, int_wrap};
 ghost use Rattle.loop_tree.specs.State.{Goes, with_at};
 ghost use Rattle.loop_tree.specs.Values.{number_at, atom_in};
@@ -255,7 +256,9 @@ fn obey(
 ) -> bool
     requires settled { IsSettled core.now.active.int_blocks core.now.active.line row.now }
     requires turn { own ≡ number_at core.now.active.indices k }
-    ensures led { IsTrue result → row_line routines.now (shown routines.now (assembled core.now ints.old blocks.old)) (row_of k row.now) ≡ Goes false [] (shown routines.now (assembled core.now ints.new blocks.new)) }
+    ensures led { IsTrue result →
+        row_line routines.now (shown routines.now (assembled core.now ints.old blocks.old)) (row_of k row.now)
+        ≡ Goes false [] (shown routines.now (assembled core.now ints.new blocks.new)) }
     ensures ints { result ≡ false → ints.new ≡ ints.old }
     ensures blocks { result ≡ false → blocks.new ≡ blocks.old }
 {
@@ -315,7 +318,9 @@ fn obey(
 #[inline(always)]
 #[tactic(auto, using(crate::proofs::Variables::set_same, crate::proofs::Variables::set_other))]
 fn is_below(ints: &Numbers, indices: &Numbers, k: u32, bound: Atom, value: i64) -> bool
-    ensures { IsTrue result → int_lt (number_at (with_at (pos 0) indices.now k value) k) (atom_in ints.now (with_at (pos 0) indices.now k value) bound) ≡ true }
+    ensures { IsTrue result →
+        int_lt (number_at (with_at (pos 0) indices.now k value) k) (atom_in ints.now (with_at (pos 0) indices.now k value) bound)
+        ≡ true }
 {
     let limit = match bound {
         Atom::Int(n) => ints.get_dense(n),
@@ -351,8 +356,11 @@ fn begin_again(
     requires closes { slice_get lines.now close ≡ Some CodeLine.Close }
     requires innermost { core.old.active.braces ≡ OpenBrace.Upward k bound body ∷ rest_of core.old.active.braces }
     requires next { next ≡ int_wrap w64 (number_at core.old.active.indices k +ℤ pos 1) }
-    ensures led { IsTrue result → step routines.now (shown routines.now (placed (assembled core.old ints.now blocks.now) close)) ≡ Goes true [] (shown routines.now (placed (assembled core.new ints.now blocks.now) body)) }
-    ensures begun { IsTrue result → core.new ≡ record core.old { active = record core.old.active { indices = with_at (pos 0) core.old.active.indices k next } } }
+    ensures led { IsTrue result → step routines.now (shown routines.now (placed (assembled core.old ints.now blocks.now) close))
+        ≡ Goes true [] (shown routines.now (placed (assembled core.new ints.now blocks.now) body)) }
+    ensures begun { IsTrue result →
+        core.new ≡ record core.old
+        { active = record core.old.active { indices = with_at (pos 0) core.old.active.indices k next } } }
     ensures stays { result ≡ false → core.new ≡ core.old }
 {
     let _ = routines;
@@ -386,7 +394,8 @@ fn turns_apart(
     requires closes { slice_get lines.now (core.old.active.place + length plan.now) ≡ Some CodeLine.Close }
     requires innermost { core.old.active.braces ≡ OpenBrace.Upward k bound core.old.active.place ∷ rest_of core.old.active.braces }
     ensures within { result ≤ may }
-    ensures led { ReachesSilently routines.now (shown routines.now (assembled core.old ints.old blocks.old)) result (shown routines.now (assembled core.new ints.new blocks.new)) }
+    ensures led { ReachesSilently routines.now (shown routines.now (assembled core.old ints.old blocks.old)) result
+        (shown routines.now (assembled core.new ints.new blocks.new)) }
 {
     let body = core.active.place;
     let mut own = core.active.indices.get(k);

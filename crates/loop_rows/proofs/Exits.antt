@@ -1,5 +1,6 @@
 -- The table of exits says where braces close.
-use Rattle.std.proofs.Common.{◌≡◌, ℕ, zero, suc, ◌+◌, List, [], ◌∷◌, length, drop, Option, Some, None, true, false, if◌then◌else◌, refl, ap, ◌∙◌, sym, subst, arith, add-one}
+use Rattle.std.proofs.Common.{◌≡◌, ℕ, zero, suc, ◌+◌, List, [], ◌∷◌, length, drop, Option, Some, None, true, false, if◌then◌else◌}
+use Rattle.std.proofs.Common.{refl, ap, ◌∙◌, sym, subst, arith, add-one}
 use Rattle.std.specs.Prelude.{map, slice_get}
 use Rattle.std.proofs.Math.Seq.{drop-length, drop-nil}
 use Rattle.loop_tree.specs.declared.tree.CodeLine.{CodeLine}
@@ -63,13 +64,19 @@ module _ (whole : List CodeLine) where
   unfolding exits
   exits_are [] at e = refl
   exits_are (code.Row r ∷ lines) at e = exits_are lines (at + 1) (drop_next whole at (code.Row r) lines e)
-  exits_are (code.If test ∷ lines) at e = map_rest from_exit (open_from (at + 1) lines) ∙ ap rest_of (exits_are lines (at + 1) (drop_next whole at (code.If test) lines e))
+  exits_are (code.If test ∷ lines) at e = map_rest from_exit (open_from (at + 1) lines) ∙
+      ap rest_of (exits_are lines (at + 1) (drop_next whole at (code.If test) lines e))
   exits_are (code.Else ∷ lines) at e =
-      let more : map from_exit (rest_of (open_from (at + 1) lines)) ≡ rest_of (exits lines) = map_rest from_exit (open_from (at + 1) lines) ∙ ap rest_of (exits_are lines (at + 1) (drop_next whole at code.Else lines e)) in
+      let more : map from_exit (rest_of (open_from (at + 1) lines)) ≡ rest_of (exits lines) =
+      map_rest from_exit (open_from (at + 1) lines) ∙
+      ap rest_of (exits_are lines (at + 1) (drop_next whole at code.Else lines e)) in
       cc
-  exits_are (code.ForUp k bound ∷ lines) at e = map_rest from_exit (open_from (at + 1) lines) ∙ ap rest_of (exits_are lines (at + 1) (drop_next whole at (code.ForUp k bound) lines e))
-  exits_are (code.ForDown k bound ∷ lines) at e = map_rest from_exit (open_from (at + 1) lines) ∙ ap rest_of (exits_are lines (at + 1) (drop_next whole at (code.ForDown k bound) lines e))
-  exits_are (code.Forever ∷ lines) at e = map_rest from_exit (open_from (at + 1) lines) ∙ ap rest_of (exits_are lines (at + 1) (drop_next whole at code.Forever lines e))
+  exits_are (code.ForUp k bound ∷ lines) at e = map_rest from_exit (open_from (at + 1) lines) ∙
+      ap rest_of (exits_are lines (at + 1) (drop_next whole at (code.ForUp k bound) lines e))
+  exits_are (code.ForDown k bound ∷ lines) at e = map_rest from_exit (open_from (at + 1) lines) ∙
+      ap rest_of (exits_are lines (at + 1) (drop_next whole at (code.ForDown k bound) lines e))
+  exits_are (code.Forever ∷ lines) at e = map_rest from_exit (open_from (at + 1) lines) ∙
+      ap rest_of (exits_are lines (at + 1) (drop_next whole at code.Forever lines e))
   exits_are (code.Close ∷ lines) at e = let more = exits_are lines (at + 1) (drop_next whole at code.Close lines e) in cc
 
   own_or_is : (es : List Exit) → drop (own_or (length whole) es) whole ≡ first_exit (map from_exit es)
@@ -108,15 +115,18 @@ module _ (whole : List CodeLine) where
       let es = open_from at (drop at whole) in
       ap (λ n. drop n whole) (first_own_is es) ∙ own_or_is es ∙ ap first_exit (exits_are (drop at whole) at refl)
 
-  outer_is : (at : ℕ) → drop ((first_exit_of (length whole) (open_from at (drop at whole))).outer) whole ≡ first_exit (rest_of (exits (drop at whole)))
+  outer_is : (at : ℕ) → drop ((first_exit_of (length whole) (open_from at (drop at whole))).outer) whole
+      ≡ first_exit (rest_of (exits (drop at whole)))
   outer_is at =
       let es = open_from at (drop at whole) in
-      ap (λ n. drop n whole) (first_outer_is es (linked at (drop at whole))) ∙ own_or_is (rest_of es) ∙ ap first_exit (map_rest from_exit es ∙ ap rest_of (exits_are (drop at whole) at refl))
+      ap (λ n. drop n whole) (first_outer_is es (linked at (drop at whole))) ∙ own_or_is (rest_of es) ∙
+      ap first_exit (map_rest from_exit es ∙ ap rest_of (exits_are (drop at whole) at refl))
 
 -- ---- the table
 
 -- the entry of a place
-entry : (end at : ℕ) (lines : List CodeLine) (i : ℕ) (e : Exit) → slice_get (table_from end at lines) i ≡ Some e → e ≡ first_exit_of end (open_before end (at + i) (drop i lines))
+entry : (end at : ℕ) (lines : List CodeLine) (i : ℕ) (e : Exit) → slice_get (table_from end at lines) i ≡ Some e →
+    e ≡ first_exit_of end (open_before end (at + i) (drop i lines))
 entry end at [] zero e h = cc
 entry end at [] (suc i) e h = absurd cc
 entry end at (line ∷ lines) zero e h =
@@ -127,7 +137,8 @@ entry end at (line ∷ lines) (suc i) e h =
     let same : at + 1 + i ≡ at + suc i = omega arith in
     subst (λ n. e ≡ first_exit_of end (open_before end n (drop i lines))) same (entry end (at + 1) lines i e h)
 
-entry_is : (lines : List CodeLine) (i : ℕ) (e : Exit) → slice_get (table_of lines) i ≡ Some e → e ≡ first_exit_of (length lines) (open_before (length lines) i (drop i lines))
+entry_is : (lines : List CodeLine) (i : ℕ) (e : Exit) → slice_get (table_of lines) i ≡ Some e →
+    e ≡ first_exit_of (length lines) (open_before (length lines) i (drop i lines))
 entry_is lines i e h =
     let same : 0 + i ≡ i = omega arith in
     entry (length lines) 0 lines i e h ∙ ap (λ n. first_exit_of (length lines) (open_before (length lines) n (drop i lines))) same
@@ -138,17 +149,21 @@ no_entry end at [] i h = drop-nil i
 no_entry end at (line ∷ lines) zero h = absurd cc
 no_entry end at (line ∷ lines) (suc i) h = no_entry end (at + 1) lines i h
 
-pub own_found : (lines : List CodeLine) (i : ℕ) (e : Exit) → slice_get (table_of lines) i ≡ Some e → drop e.own lines ≡ exit_of (drop i lines)
+pub own_found : (lines : List CodeLine) (i : ℕ) (e : Exit) → slice_get (table_of lines) i ≡ Some e →
+    drop e.own lines ≡ exit_of (drop i lines)
 own_found lines i e h = ap (λ (x : Exit). drop x.own lines) (entry_is lines i e h) ∙ own_is lines i
 
-pub outer_found : (lines : List CodeLine) (i : ℕ) (e : Exit) → slice_get (table_of lines) i ≡ Some e → drop e.outer lines ≡ first_exit (rest_of (exits (drop i lines)))
+pub outer_found : (lines : List CodeLine) (i : ℕ) (e : Exit) → slice_get (table_of lines) i ≡ Some e →
+    drop e.outer lines ≡ first_exit (rest_of (exits (drop i lines)))
 outer_found lines i e h = ap (λ (x : Exit). drop x.outer lines) (entry_is lines i e h) ∙ outer_is lines i
 
-pub own_missing : (lines : List CodeLine) (i : ℕ) → slice_get (table_of lines) i ≡ None → drop (length lines) lines ≡ exit_of (drop i lines)
+pub own_missing : (lines : List CodeLine) (i : ℕ) → slice_get (table_of lines) i ≡ None →
+    drop (length lines) lines ≡ exit_of (drop i lines)
 unfolding exits
 own_missing lines i h = drop-length lines ∙ sym (ap exit_of (no_entry (length lines) 0 lines i h))
 
-pub outer_missing : (lines : List CodeLine) (i : ℕ) → slice_get (table_of lines) i ≡ None → drop (length lines) lines ≡ first_exit (rest_of (exits (drop i lines)))
+pub outer_missing : (lines : List CodeLine) (i : ℕ) → slice_get (table_of lines) i ≡ None →
+    drop (length lines) lines ≡ first_exit (rest_of (exits (drop i lines)))
 unfolding exits
 outer_missing lines i h = drop-length lines ∙ sym (ap (λ x. first_exit (rest_of (exits x))) (no_entry (length lines) 0 lines i h))
 
@@ -194,7 +209,8 @@ module _ (functions : List Function) (routine : ℕ) (missing : slice_get functi
   unfolding exits
   no_exit place = no_lines place ∙ sym (ap exit_of (no_lines place))
 
-  pub no_outer : (place : ℕ) → drop place (lines_in functions routine) ≡ first_exit (rest_of (exits (drop place (lines_in functions routine))))
+  pub no_outer : (place : ℕ) →
+      drop place (lines_in functions routine) ≡ first_exit (rest_of (exits (drop place (lines_in functions routine))))
   unfolding exits
   no_outer place = no_lines place ∙ sym (ap (λ lines. first_exit (rest_of (exits lines))) (no_lines place))
 
@@ -203,7 +219,9 @@ module _ (functions : List Function) (routine : ℕ) (missing : slice_get functi
 
 -- ---- the other branch
 
-pub skip_is : (s : State) (exit : List CodeLine) → skip_choice s exit ≡ (if is_else exit then with_place s (rest_of exit) (Choice ∷ s.now.braces) else with_rest s (rest_of exit))
+pub skip_is : (s : State) (exit : List CodeLine) →
+    skip_choice s exit ≡
+    (if is_else exit then with_place s (rest_of exit) (Choice ∷ s.now.braces) else with_rest s (rest_of exit))
 skip_is s [] = refl
 skip_is s (code.Row r ∷ lines) = refl
 skip_is s (code.If test ∷ lines) = refl
@@ -216,11 +234,14 @@ skip_is s (code.Close ∷ lines) = refl
 -- ---- the end of the innermost loop
 
 -- from the braces of a choice to those around it
-pub choice_passed : (lines : List CodeLine) (old new : List OpenBrace) (at outer : List CodeLine) → begins_choice old ≡ true → new ≡ rest_of old → outer ≡ first_exit (rest_of (exits at)) →
+pub choice_passed : (lines : List CodeLine) (old new : List OpenBrace) (at outer : List CodeLine) → begins_choice old ≡ true →
+    new ≡ rest_of old → outer ≡ first_exit (rest_of (exits at)) →
     loop_end (map (brace lines) new) (exits outer) ≡ loop_end (map (brace lines) old) (exits at)
 unfolding loop_end
 choice_passed lines [] new at outer e n o = absurd cc
-choice_passed lines (open_brace.Choice ∷ more) new at outer e n o = ap (λ (h : List OpenBrace). loop_end (map (brace lines) h) (exits outer)) n ∙ ap (loop_end (map (brace lines) more)) (ap exits o ∙ exits_at_outer at)
+choice_passed lines (open_brace.Choice ∷ more) new at outer e n o =
+    ap (λ (h : List OpenBrace). loop_end (map (brace lines) h) (exits outer)) n ∙
+    ap (loop_end (map (brace lines) more)) (ap exits o ∙ exits_at_outer at)
 choice_passed lines (open_brace.Upward k bound body ∷ more) new at outer e n o = absurd cc
 choice_passed lines (open_brace.Downward k body ∷ more) new at outer e n o = absurd cc
 choice_passed lines (open_brace.Forever body ∷ more) new at outer e n o = absurd cc

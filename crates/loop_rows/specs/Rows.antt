@@ -24,6 +24,7 @@ without_record s = record s { pending = [] }
 
 -- the same of a row that gathers a record, and answers whether it is to be written
 abbrev pub Gathered : Next → List Function → Core → Result Bool Halt → Type 0
-Gathered next functions new (Ok true) = next ≡ Goes false (record_text new.pending ++ 10 ∷ []) (without_record (shown functions new))
+Gathered next functions new (Ok true) =
+    next ≡ Goes false (record_text new.pending ++ 10 ∷ []) (without_record (shown functions new))
 Gathered next functions new (Ok false) = next ≡ Goes false [] (shown functions new)
 Gathered next functions new (Err halt) = HaltsSo next halt

@@ -1,7 +1,8 @@
 //! Arguments of calls, and the call that they begin.
 ghost use Rattle.std.specs.Prelude.{◌≡◌, ◌∷◌, ◌++◌, [], IfOk, OnOk};
 ghost use Rattle.std.specs.List.{list_all};
-ghost use Rattle.loop_tree.specs.Machine.{letter_of_reference, letter_of, same_letter, match_letters, is_usable, int_passed, text_passed, ints_passed, texts_passed, callable};
+ghost use Rattle.loop_tree.specs.Machine.{letter_of_reference, letter_of, same_letter, match_letters, is_usable, int_passed};
+ghost use Rattle.loop_tree.specs.Machine.{text_passed, ints_passed, texts_passed, callable};
 ghost use Rattle.loop_rows.specs.Shown.{shown};
 ghost use Rattle.loop_rows.specs.Callees.{accepts, entered, with_argument};
 

@@ -56,7 +56,8 @@ pub fn exit(routines: &[Routine], routine: usize, place: usize) -> usize
 
 /// The same of the brace around that one.
 pub fn outer(routines: &[Routine], routine: usize, place: usize) -> usize
-    ensures { drop result (lines_in routines.now routine) ≡ first_exit (rest_of (exits (drop place (lines_in routines.now routine)))) }
+    ensures { drop result (lines_in routines.now routine)
+        ≡ first_exit (rest_of (exits (drop place (lines_in routines.now routine)))) }
 {
     match at(routines, routine) {
         Some(found) => found.outer(place),

@@ -3,7 +3,9 @@
 ghost use Rattle.loop_tree.specs.State.{with_at};
 ghost use Rattle.loop_tree.specs.Values.{grown, atom_of, text_of, block_of, block_at, holds};
 ghost use Rattle.a95_base.specs.Input.{next_value, record_length};
-ghost use Rattle.loop_tree.specs.Machine.{take_line, int_line, text_line, change_line, store_int, store_text, free_line, new_ints_line, new_texts_line, same_ints_line, same_texts_line, block_line, put_line, record_line};
+ghost use Rattle.loop_tree.specs.Machine.{take_line, int_line, text_line, change_line, store_int, store_text, free_line};
+ghost use Rattle.loop_tree.specs.Machine.{new_ints_line, new_texts_line, same_ints_line, same_texts_line, block_line, put_line};
+ghost use Rattle.loop_tree.specs.Machine.{record_line};
 ghost use Rattle.loop_rows.specs.Shown.{shown};
 ghost use Rattle.loop_rows.specs.Rows.{Obeyed, Gathered};
 
@@ -17,7 +19,8 @@ use record_io::{Looked, after_record, look};
 
 /// `iN = f_take(A);`
 fn take(routines: &[Routine], core: &mut Core, n: u32, comma: bool) -> Result<(), Halt>
-    ensures { Obeyed (take_line (shown routines.now core.old) n (next_value comma (shown routines.now core.old).input)) routines.now core.new result }
+    ensures { Obeyed (take_line (shown routines.now core.old) n (next_value comma (shown routines.now core.old).input))
+        routines.now core.new result }
 {
     let _ = routines;
     match look(rest(core.input.as_slice(), core.taken), comma) {
@@ -164,7 +167,8 @@ fn new_texts(
 /// `bN = bN;`
 #[tactic(auto, unfolding(loop_tree::specs::Machine::same_ints_line))]
 fn same_ints(routines: &[Routine], core: &mut Core, n: u32, m: u32) -> Result<(), Halt>
-    ensures { Obeyed (same_ints_line (shown routines.now core.old) n (block_at core.old.active.int_blocks m)) routines.now core.new result }
+    ensures { Obeyed (same_ints_line (shown routines.now core.old) n (block_at core.old.active.int_blocks m)) routines.now
+        core.new result }
 {
     let _ = routines;
     core.blocks.check(core.active.int_blocks.get(m))?;
@@ -176,7 +180,8 @@ fn same_ints(routines: &[Routine], core: &mut Core, n: u32, m: u32) -> Result<()
 /// `cN = cN;`
 #[tactic(auto, unfolding(loop_tree::specs::Machine::same_texts_line))]
 fn same_texts(routines: &[Routine], core: &mut Core, n: u32, m: u32) -> Result<(), Halt>
-    ensures { Obeyed (same_texts_line (shown routines.now core.old) n (block_at core.old.active.text_blocks m)) routines.now core.new result }
+    ensures { Obeyed (same_texts_line (shown routines.now core.old) n (block_at core.old.active.text_blocks m)) routines.now
+        core.new result }
 {
     let _ = routines;
     core.blocks.check(core.active.text_blocks.get(m))?;

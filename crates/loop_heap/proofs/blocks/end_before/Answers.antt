@@ -7,10 +7,12 @@ loop-end-preserved c =
     let past : c.args.mark ≤ c.index-slots-end.result.number = omega (arith, c.number.ensures) in
     record {
       within = omega (arith, c.loop-end.invariant.within);
-      same = before_drop c.args.mark c.args.slots.now c.loop-end.end c.index-slots-end.result c.loop-end-test.true c.loop-end.invariant.within c.index-slots-end.is past c.loop-end.invariant.same;
+      same = before_drop c.args.mark c.args.slots.now c.loop-end.end c.index-slots-end.result c.loop-end-test.true
+          c.loop-end.invariant.within c.index-slots-end.is past c.loop-end.invariant.same;
     }
 
 pub returns-else-number-mark-clause-before : goal.returns-else-number-mark-clause-before
 returns-else-number-mark-clause-before c =
     let less : c.index-slots-end.result.number < c.args.mark = omega (arith, c.number.ensures) in
-    before_stop c.args.mark c.args.made c.args.slots.now c.loop-end.end c.index-slots-end.result c.requires c.loop-end-test.true c.loop-end.invariant.within c.index-slots-end.is less c.loop-end.invariant.same
+    before_stop c.args.mark c.args.made c.args.slots.now c.loop-end.end c.index-slots-end.result c.requires c.loop-end-test.true
+    c.loop-end.invariant.within c.index-slots-end.is less c.loop-end.invariant.same

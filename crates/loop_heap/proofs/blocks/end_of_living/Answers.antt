@@ -8,5 +8,6 @@ loop-end-preserved c =
     let hole : is_living c.index-slots-end.result ≡ false = cc in
     record {
       within = omega (arith, c.loop-end.invariant.within);
-      same = hole_drop c.args.slots.now c.loop-end.end c.index-slots-end.result c.loop-end-test.true c.loop-end.invariant.within c.index-slots-end.is hole c.loop-end.invariant.same;
+      same = hole_drop c.args.slots.now c.loop-end.end c.index-slots-end.result c.loop-end-test.true c.loop-end.invariant.within
+          c.index-slots-end.is hole c.loop-end.invariant.same;
     }

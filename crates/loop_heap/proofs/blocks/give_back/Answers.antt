@@ -15,4 +15,5 @@ returns-clause-living c =
 pub returns-clause-rising : goal.returns-clause-rising
 returns-clause-rising c =
     rw (c.keep_living.ensures, c.truncate.ensures.items)
-    (rising_filter is_living 0 c.args.made _ (rising_take 0 c.args.made c.end_of_living-end.result c.args.slots.now.items c.requires))
+    (rising_filter is_living 0 c.args.made _
+    (rising_take 0 c.args.made c.end_of_living-end.result c.args.slots.now.items c.requires))

@@ -18,18 +18,21 @@ pub loop-braces-preserved : goal.loop-braces-preserved
 loop-braces-preserved c =
     let lines = lines_in c.args.routines.now c.args.routine in
     record {
-      same = choice_passed lines _ _ (drop c.loop-braces.closing lines) _ (sym c.is_choice.ensures ∙ c.loop-braces-test.true) c.drop_top.ensures c.outer-closing.ensures ∙ c.loop-braces.invariant.same;
+      same = choice_passed lines _ _ (drop c.loop-braces.closing lines) _ (sym c.is_choice.ensures ∙ c.loop-braces-test.true)
+          c.drop_top.ensures c.outer-closing.ensures ∙ c.loop-braces.invariant.same;
       closes = closes_outer (drop c.loop-braces.closing lines) _ c.outer-closing.ensures;
     }
 
 pub returns-clause-lines : goal.returns-clause-lines
 returns-clause-lines c =
     let lines = lines_in c.args.routines.now c.args.routine in
-    let there = at_loop lines c.loop-braces.braces (exits (drop c.loop-braces.closing lines)) (sym c.is_choice.ensures ∙ c.loop-braces-test.false) in
+    let there = at_loop lines c.loop-braces.braces (exits (drop c.loop-braces.closing lines))
+    (sym c.is_choice.ensures ∙ c.loop-braces-test.false) in
     sym c.loop-braces.invariant.closes ∙ ap (λ (p : Place). p.lines) (sym there ∙ c.loop-braces.invariant.same)
 
 pub returns-clause-braces : goal.returns-clause-braces
 returns-clause-braces c =
     let lines = lines_in c.args.routines.now c.args.routine in
-    let there = at_loop lines c.loop-braces.braces (exits (drop c.loop-braces.closing lines)) (sym c.is_choice.ensures ∙ c.loop-braces-test.false) in
+    let there = at_loop lines c.loop-braces.braces (exits (drop c.loop-braces.closing lines))
+    (sym c.is_choice.ensures ∙ c.loop-braces-test.false) in
     ap (λ (p : Place). p.braces) (sym there ∙ c.loop-braces.invariant.same)

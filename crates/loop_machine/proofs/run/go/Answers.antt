@@ -17,7 +17,8 @@ loop-left-init g c =
     let spent : 0 ≡ c.args.turns - c.args.turns = omega arith in
     record {
       within = omega arith;
-      advances = subst (λ k. Advances fs (shown fs c.args.core.now) k (shown fs c.args.core.now) bytes bytes) spent (advances_none fs (shown fs c.args.core.now) bytes);
+      advances = subst (λ k. Advances fs (shown fs c.args.core.now) k (shown fs c.args.core.now) bytes bytes) spent
+          (advances_none fs (shown fs c.args.core.now) bytes);
       same = refl;
     }
 
@@ -26,8 +27,10 @@ returns-in-Err-clause-runs g c =
     let fs = c.args.routines.now in
     let within = c.loop-left.invariant.within in
     let all : c.args.turns - c.loop-left.left + c.loop-left.left ≡ c.args.turns = omega arith in
-    then_runs fs (shown fs c.args.core.now) (shown fs c.loop-left.core) (shown fs c.advance.new.core) (c.args.turns - c.loop-left.left) c.loop-left.left c.args.turns c.in-Err.end
-    (g.K.Sink.written c.args.sink.now) (g.K.Sink.written c.loop-left.sink) (g.K.Sink.written c.advance.new.sink) all c.loop-left.invariant.advances c.in-Err.ensures.advanced
+    then_runs fs (shown fs c.args.core.now) (shown fs c.loop-left.core) (shown fs c.advance.new.core)
+    (c.args.turns - c.loop-left.left) c.loop-left.left c.args.turns c.in-Err.end
+    (g.K.Sink.written c.args.sink.now) (g.K.Sink.written c.loop-left.sink) (g.K.Sink.written c.advance.new.sink) all
+    c.loop-left.invariant.advances c.in-Err.ensures.advanced
 
 pub loop-left-preserved : goal.loop-left-preserved
 loop-left-preserved g c =
@@ -39,12 +42,15 @@ loop-left-preserved g c =
     let used = c.sweep-used.result in
     let fits = c.sweep-used.ensures.within in
     let same = c.from-left.ensures in
-    let spent : c.args.turns - c.loop-left.left + 1 + used ≡ c.args.turns - (c.loop-left.left - 1 - c.from-left.result) = omega (arith, same) in
-    let turn = advances_then fs (shown fs c.args.core.now) (shown fs c.loop-left.core) (shown fs c.advance.new.core) (c.args.turns - c.loop-left.left) 1
+    let spent : c.args.turns - c.loop-left.left + 1 + used ≡ c.args.turns - (c.loop-left.left - 1 - c.from-left.result) =
+    omega (arith, same) in
+    let turn = advances_then fs (shown fs c.args.core.now) (shown fs c.loop-left.core) (shown fs c.advance.new.core)
+    (c.args.turns - c.loop-left.left) 1
     old (g.K.Sink.written c.loop-left.sink) new c.loop-left.invariant.advances c.in-Ok.ensures.advanced.1 in
     record {
       within = omega (arith, same);
       advances = subst (λ k. Advances fs (shown fs c.args.core.now) k (shown fs c.sweep-used.new.core) old new) spent
-          (advances_silently fs (shown fs c.args.core.now) (shown fs c.advance.new.core) (shown fs c.sweep-used.new.core) (c.args.turns - c.loop-left.left + 1) used old new turn c.sweep-used.ensures.led);
+          (advances_silently fs (shown fs c.args.core.now) (shown fs c.advance.new.core) (shown fs c.sweep-used.new.core)
+          (c.args.turns - c.loop-left.left + 1) used old new turn c.sweep-used.ensures.led);
       same = c.advance.ensures.same (no_fault c.advance.result _ c.in-Ok.is) ∙ c.loop-left.invariant.same;
     }

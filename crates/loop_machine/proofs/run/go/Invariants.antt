@@ -6,7 +6,8 @@ use Rattle.loop_machine.proofs.run.go.Given as goal
 abbrev pub invariant-loop-left : goal.invariant-loop-left
 invariant-loop-left g l = record {
   within : l.left ≤ l.turns;
-  advances : Advances l.routines (shown l.routines l.fn.core) (l.turns - l.left) (shown l.routines l.core) (g.K.Sink.written l.fn.sink) (g.K.Sink.written l.sink);
+  advances : Advances l.routines (shown l.routines l.fn.core) (l.turns - l.left) (shown l.routines l.core)
+      (g.K.Sink.written l.fn.sink) (g.K.Sink.written l.sink);
   same : g.K.Sink.faults l.sink ≡ g.K.Sink.faults l.fn.sink;
 }
 

@@ -8,7 +8,8 @@ use Rattle.loop_machine.proofs.sweep.turns_apart.Given as goal
 abbrev pub invariant-loop-row : goal.invariant-loop-row
 invariant-loop-row l = record {
   within : l.used ≤ l.may;
-  led : ReachesSilently l.routines (shown l.routines (assembled l.fn.core l.fn.ints l.fn.blocks)) l.used (shown l.routines (placed (assembled l.core l.ints l.blocks) (l.fn.core.active.place + (length l.plan - length l.rest))));
+  led : ReachesSilently l.routines (shown l.routines (assembled l.fn.core l.fn.ints l.fn.blocks)) l.used
+      (shown l.routines (placed (assembled l.core l.ints l.blocks) (l.fn.core.active.place + (length l.plan - length l.rest))));
   rows : length l.rest ≤ length l.plan;
   behind : drop (length l.plan - length l.rest) l.plan ≡ l.rest;
   routine : l.core.active.routine ≡ l.fn.core.active.routine;

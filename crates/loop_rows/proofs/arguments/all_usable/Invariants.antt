@@ -5,4 +5,5 @@ use Rattle.loop_rows.specs.Shown.{shown}
 use Rattle.loop_rows.proofs.arguments.all_usable.Given as goal
 
 abbrev pub invariant-loop-argument : goal.invariant-loop-argument
-invariant-loop-argument l = list_all (is_usable (shown l.routines l.core)) (drop l.argument-index l.arguments) ≡ list_all (is_usable (shown l.routines l.core)) l.arguments
+invariant-loop-argument l = list_all (is_usable (shown l.routines l.core)) (drop l.argument-index l.arguments)
+    ≡ list_all (is_usable (shown l.routines l.core)) l.arguments

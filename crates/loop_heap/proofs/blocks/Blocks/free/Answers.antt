@@ -16,7 +16,8 @@ returns-then-not-free_at-clause-err c =
 
 pub give_back-self-inside-requires : goal.give_back-self-inside-requires
 give_back-self-inside-requires c =
-    rw (c.if-not-free_at.ensures.freed refl) (rising_without 0 c.self.inside.made c.self.inside.slots.items c.place_of-at.result c.self.invariant)
+    rw (c.if-not-free_at.ensures.freed refl)
+    (rising_without 0 c.self.inside.made c.self.inside.slots.items c.place_of-at.result c.self.invariant)
 
 pub returns-clause-ok : goal.returns-clause-ok
 returns-clause-ok c =

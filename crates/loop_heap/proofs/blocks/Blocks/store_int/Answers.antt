@@ -5,10 +5,12 @@ use Rattle.loop_heap.proofs.Slots.{changed_blocks, rising_set}
 use Rattle.loop_heap.proofs.blocks.Blocks.store_int.Goals as goal
 
 pub invariant_of-self : goal.invariant_of-self
-invariant_of-self c = rising_set 0 c.self.inside.made c.self.inside.slots.items c.place_of-at.result c.index_mut.result.now _ c.self.invariant c.index_mut.ensures.value c.store_int.ensures.number
+invariant_of-self c = rising_set 0 c.self.inside.made c.self.inside.slots.items c.place_of-at.result c.index_mut.result.now _
+    c.self.invariant c.index_mut.ensures.value c.store_int.ensures.number
 
 pub returns : goal.returns
 returns c =
     let place = rw c.deref.ensures.value at c.place_of-at.ensures in
-    let blocks = changed_blocks (store_int c.args.i c.args.value) c.self.view_is c.self.invariant place (omega arith) c.index_mut.ensures.value in
+    let blocks = changed_blocks (store_int c.args.i c.args.value) c.self.view_is c.self.invariant place (omega arith)
+    c.index_mut.ensures.value in
     grind (arith, common_steps)
