@@ -1,15 +1,17 @@
 //! The built-ins on texts. Places are counted from 1.
 ghost use Rattle.std.specs.Prelude.{◌≡◌, ◌≤◌, [], ◌++◌, pos, length, IfOk};
-ghost use Rattle.loop_tree.specs.Characters.{compare_padded, first_place, fit, part_of, past_blanks, trim, adjust_left};
-ghost use Rattle.loop_tree.specs.Characters.{adjust_right};
-ghost use Rattle.loop_tree.specs.Values.{code_of, char_of, sub, replaced, fitted};
+ghost use Rattle.std.specs.Option.{ok_or};
+ghost use Rattle.a95_base.specs.Text.{compare_padded, first_place, fit, code_of, char_of, part_of, trim, trim_front, adjust_left, adjust_right};
+ghost use Rattle.loop_tree.specs.declared.stuck.StuckState.TheVariants.{OutsideText, NoByte};
+ghost use Rattle.loop_tree.specs.Values.{order_number, sub, replaced, fitted};
 ghost use Rattle.loop_heap.specs.Halts.{Yields};
 
-use a95_base::Bytes;
+use a95_base::{Bytes, compare_padded};
 use loop_heap::Halt;
 use loop_tree::StuckState;
 use memchr::memmem;
 use std::alloc::{AllocError, Global};
+use std::cmp::Ordering;
 
 /// The first place of a part in a text, or 0.
 pub fn index(text: &[u8], part: &[u8]) -> i64
@@ -23,7 +25,7 @@ pub fn index(text: &[u8], part: &[u8]) -> i64
 
 /// The byte of a text of one byte. `OutsideText`: the text has another length.
 pub fn code(text: &[u8]) -> Result<i64, StuckState>
-    ensures { result ≡ code_of text.now }
+    ensures { result ≡ ok_or (code_of text.now) OutsideText }
 {
     match text {
         [byte] => Ok(i64::from(*byte)),
@@ -33,7 +35,7 @@ pub fn code(text: &[u8]) -> Result<i64, StuckState>
 
 /// The text of one byte. `NoByte`: the number is outside 0 to 255.
 pub fn char(alloc: Global, code: i64) -> Result<Bytes, Halt>
-    ensures { Yields (char_of code) result }
+    ensures { Yields (ok_or (char_of code) NoByte) result }
 {
     match u8::try_from(code) {
         Ok(byte) => Ok(Bytes::from_slice(alloc, &[byte])?),
@@ -43,42 +45,13 @@ pub fn char(alloc: Global, code: i64) -> Result<Bytes, Halt>
 
 /// The order of two texts, the shorter padded with blanks: -1, 0 or 1.
 pub fn compare(a: &[u8], b: &[u8]) -> i64
-    ensures { result ≡ compare_padded a.now b.now }
+    ensures { result ≡ order_number (compare_padded a.now b.now) }
 {
-    let common = a.len().min(b.len());
-    for i in 0..common {
-        if a[i] != b[i] {
-            return if a[i] < b[i] { -1 } else { 1 };
-        }
+    match compare_padded(a, b) {
+        Ordering::Less => -1,
+        Ordering::Equal => 0,
+        Ordering::Greater => 1,
     }
-    if common < a.len() {
-        return against_blanks(&a[common..]);
-    }
-    blanks_against(&b[common..])
-}
-
-// The order of a text and blanks.
-fn against_blanks(text: &[u8]) -> i64
-    ensures { result ≡ compare_padded text.now [] }
-{
-    for byte in text {
-        if *byte != b' ' {
-            return if *byte < b' ' { -1 } else { 1 };
-        }
-    }
-    0
-}
-
-// The order of blanks and a text.
-fn blanks_against(text: &[u8]) -> i64
-    ensures { result ≡ compare_padded [] text.now }
-{
-    for byte in text {
-        if *byte != b' ' {
-            return if b' ' < *byte { -1 } else { 1 };
-        }
-    }
-    0
 }
 
 /// One text behind another.
@@ -145,11 +118,7 @@ pub fn fit(alloc: Global, text: &[u8], length: i64) -> Result<Bytes, Halt>
 fn fit_to(alloc: Global, text: &[u8], length: usize) -> Result<Bytes, AllocError>
     ensures { IfOk result (λ made. made ≡ fit length text.now) }
 {
-    let kept = length.min(text.len());
-    let mut bytes = Vec::with_capacity(alloc, length)?;
-    bytes.extend_from_slice(&text[..kept])?;
-    bytes.resize(length, b' ')?;
-    Ok(Bytes::from_vec(bytes))
+    a95_base::fit(alloc, text, length).map_err(|_| AllocError)
 }
 
 /// The text without the blanks at its end.
@@ -189,7 +158,7 @@ fn without_end_blanks(text: &[u8]) -> &[u8]
 }
 
 fn without_front_blanks(text: &[u8]) -> &[u8]
-    ensures { result.now ≡ past_blanks text.now }
+    ensures { result.now ≡ trim_front text.now }
 {
     let mut start = 0;
     while start < text.len() && text[start] == b' ' {
