@@ -1,4 +1,4 @@
--- What a slot holds.
+-- What a slot holds. No public clause cites this.
 use Rattle.std.specs.Prelude.{Option, None, Some}
 use Rattle.loop_tree.specs.State.{Cells, Ints, Texts}
 use Rattle.loop_heap.specs.declared.slot.Contents.{Contents}

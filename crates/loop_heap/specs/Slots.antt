@@ -1,4 +1,5 @@
--- Blocks in the order in which they were made, some of which were freed.
+-- Blocks in the order in which they were made, some of which were freed: how the code keeps them. No public clause
+-- cites this.
 use Rattle.std.specs.Prelude.{◌≡◌, ℕ, zero, suc, ◌+◌, ◌<◌, ◌≤◌, Bool, is_some, List, [], ◌∷◌, ◌++◌, length, get_or, Option, None}
 use Rattle.std.specs.Prelude.{Some, Result, Ok, Err}
 use Rattle.loop_tree.specs.declared.stuck.StuckState.{StuckState}

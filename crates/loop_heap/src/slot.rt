@@ -225,7 +225,7 @@ fn add_texts(
     size: usize,
 ) -> Result<(), AllocError>
     ensures ok { OnOk result (cells.new.items ≡ cells.old.items ++ replicate count (replicate size 32)) }
-    ensures front { take (length cells.old.items) cells.new.items ≡ cells.old.items }
+    ensures prefix { take (length cells.old.items) cells.new.items ≡ cells.old.items }
 {
     for _ in 0..count {
         cells.push(blanks(alloc, size)?)?;

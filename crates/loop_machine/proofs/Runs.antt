@@ -1,5 +1,5 @@
 -- From steps in a row to the run of a program, and back.
-use Rattle.std.proofs.Common.{◌≡◌, inl, inr, ℕ, ◌+◌, ◌≤◌, true, false, List, [], ◌∷◌, ◌++◌, drop, Option, Some, None, refl, ap}
+use Rattle.std.proofs.Common.{◌≡◌, inl, inr, ℕ, ◌+◌, ◌≤◌, true, false, List, [], ◌∷◌, ◌++◌, drop, Option, Some, None, Result, Ok, Err, refl, ap}
 use Rattle.std.proofs.Common.{◌∙◌, sym, subst, arith, append-nil}
 use Rattle.std.specs.Io.KnownBytes.{Appends, Keeps}
 use Rattle.std.proofs.KnownBytes.{Appends-nil, Appends-trans}
@@ -28,6 +28,10 @@ use Rattle.loop_machine.proofs.Steps.{reaches_by_step, reaches_then}
 pub started : (functions : List Function) → drop 0 (lines_in functions 0) ≡ lines_at_start functions
 started [] = refl
 started (main ∷ functions) = refl
+
+-- an answer that is none is no fault of the sink
+pub no_fault : {A : Type 0} (r : Result A End) (a : A) → r ≡ Ok a → r ≡ Err end.WriteFault → ⊥
+no_fault r a ok err = absurd (cc (ok, err))
 
 module _ (functions : List Function) where
   abbrev begin : State → Configuration

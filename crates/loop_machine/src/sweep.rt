@@ -183,7 +183,7 @@ fn plan(core: &Core, k: u32, lines: &[CodeLine], from: usize) -> Option<Vec<Plan
     None
 }
 
-/// The value of an atom, if it is at hand.
+/// The value of an atom, if it is a number or a dense variable.
 #[inline(always)]
 fn read(ints: &Numbers, indices: &Numbers, a: &Atom) -> Option<i64>
     ensures { IfSome result (λ value. value ≡ atom_in ints.now indices.now a.now) }
@@ -314,7 +314,7 @@ fn obey(
     }
 }
 
-/// A loop variable that is set to a value stands below the bound then, which is at hand.
+/// A loop variable that is set to a value stands below the bound then, which is read with no call.
 #[inline(always)]
 #[tactic(auto, using(crate::proofs::Variables::set_same, crate::proofs::Variables::set_other))]
 fn is_below(ints: &Numbers, indices: &Numbers, k: u32, bound: Atom, value: i64) -> bool
@@ -375,7 +375,7 @@ fn begin_again(
 }
 
 /// At most so many turns more of the loop whose body begins here, and the rows behind the last of them, as far as they
-/// lead on. Answers how many turns there were. Rows and turns are one loop, so that all it needs is at hand in both.
+/// lead on. Answers how many turns there were. Rows and turns are one loop, so that what it needs stays in registers in both.
 #[inline(always)]
 fn turns_apart(
     routines: &[Routine],
@@ -476,7 +476,7 @@ fn turns(
 
 /// Turns of a loop that has begun not long ago and goes upward, at most so many, where its body is rows alone and it has
 /// many turns. Answers how many there were; there may be more. In the first turn a row may set a variable that wasn't set
-/// before, and isn't at hand then, so the second turn is tried too.
+/// before, and isn't dense then, so the second turn is tried too.
 #[inline(never)]
 #[tactic(auto, using(crate::proofs::Steps::reaches_itself))]
 pub fn sweep(routines: &[Routine], core: &mut Core, may: u64) -> u64

@@ -1,4 +1,4 @@
--- Variables in a map, each by its number.
+-- Variables in a map, each by its number: how the code keeps them. No public clause cites this.
 use Rattle.std.specs.Prelude.{ℕ, ◌+◌, ◌-◌, ◌≤◌, List, [], ◌∷◌, ◌++◌, replicate}
 
 -- the numbers below stand in a list

@@ -54,7 +54,7 @@ impl<T: First> Table<T> {
         }
     }
 
-    /// The value of a variable that stands in the list.
+    /// The value of a dense variable: one that stands in the list.
     #[inline]
     pub fn get_dense(&self, n: u32) -> Option<&T>
         ensures { IfSome result (λ value. value.now ≡ get_or self.now n T.first) }
@@ -73,7 +73,7 @@ impl<T: First> Table<T> {
         }
     }
 
-    /// Sets a variable that stands in the list, and answers whether it does.
+    /// Sets a dense variable, and answers whether it is one.
     #[inline(always)]
     pub fn set_dense(&mut self, n: u32, value: T) -> bool
         ensures set { IsTrue result → self.new ≡ with_at T.first self.old n value }
@@ -171,7 +171,7 @@ fn put_in<T: First>(high: &mut BTreeMap<u32, T>, n: u32, value: T) -> Result<(),
 // Adds so many first values.
 fn fill<T: First>(alloc: Global, low: &mut Vec<T>, count: usize) -> Result<(), AllocError>
     ensures ok { OnOk result (low.new.items ≡ low.old.items ++ replicate count T.first) }
-    ensures front { take (length low.old.items) low.new.items ≡ low.old.items }
+    ensures prefix { take (length low.old.items) low.new.items ≡ low.old.items }
 {
     for _ in 0..count {
         low.push(T::first(alloc))?;

@@ -91,7 +91,7 @@ impl Numbers {
         self.table.set(n, value)
     }
 
-    /// The value of variable n where it is at hand, as that of a small variable that was set.
+    /// The value of variable n where it is dense: its number is small, and it or one behind it was set.
     #[inline(always)]
     pub fn get_dense(&self, n: u32) -> Option<i64>
         ensures { IfSome result (λ value. value ≡ number_at self.now n) }
@@ -102,7 +102,7 @@ impl Numbers {
         }
     }
 
-    /// Sets variable n where it is at hand, and answers whether it is.
+    /// Sets variable n where it is dense, and answers whether it is.
     #[inline(always)]
     pub fn set_dense(&mut self, n: u32, value: i64) -> bool
         ensures set { IsTrue result → self.new ≡ with_at (pos 0) self.old n value }

@@ -6,15 +6,12 @@ use Rattle.loop_machine.specs.declared.end.End.TheVariants as end
 use Rattle.loop_rows.specs.Shown.{shown, lines_in}
 use Rattle.loop_machine.specs.Steps.{Advances, Passed}
 use Rattle.loop_machine.proofs.Steps.{advances_none, then_step, silent_step, step_lessens_left}
-use Rattle.loop_machine.proofs.Runs.{then_runs}
+use Rattle.loop_machine.proofs.Runs.{no_fault, then_runs}
 use Rattle.loop_machine.proofs.run.advance.Goals as goal
 
 positive : (n : ℕ) → nat_lt 0 n ≡ true → 0 < n
 positive zero e = absurd cc
 positive (suc n) e = omega arith
-
-no_fault : {A : Type 0} (r : Result A End) (a : A) → r ≡ Ok a → r ≡ Err end.WriteFault → ⊥
-no_fault r a ok err = absurd (cc (ok, err))
 
 pub loop-core-init : goal.loop-core-init
 loop-core-init g c =

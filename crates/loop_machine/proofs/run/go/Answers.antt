@@ -4,11 +4,8 @@ use Rattle.loop_machine.specs.declared.end.End.TheVariants as end
 use Rattle.loop_rows.specs.Shown.{shown}
 use Rattle.loop_machine.specs.Steps.{Advances}
 use Rattle.loop_machine.proofs.Steps.{advances_none, advances_then, advances_silently}
-use Rattle.loop_machine.proofs.Runs.{then_runs}
+use Rattle.loop_machine.proofs.Runs.{no_fault, then_runs}
 use Rattle.loop_machine.proofs.run.go.Goals as goal
-
-no_fault : {A : Type 0} (r : Result A End) (a : A) → r ≡ Ok a → r ≡ Err end.WriteFault → ⊥
-no_fault r a ok err = absurd (cc (ok, err))
 
 pub loop-left-init : goal.loop-left-init
 loop-left-init g c =
