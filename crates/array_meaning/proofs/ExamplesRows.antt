@@ -1,0 +1,36 @@
+-- Small sources that show what acts when. Each row holds by computation.
+use Rattle.std.proofs.Common.{refl}
+use Rattle.array_meaning.proofs.Running.{running}
+use Rattle.array_meaning.specs.Examples.{shifted_section, sum_without_mask, pending_places_alone, forall_before_any_store, turns_run_out, shifts, shape_before_many_one, many_one_before_elements, ShiftedSection, SumWithoutMask, PendingPlacesAlone, ForallBeforeAnyStore, TurnsRunOut, Shifts, ShapeBeforeManyOne, ManyOneBeforeElements}
+
+pub shifted_section_row : ShiftedSection
+unfolding running shifted_section
+shifted_section_row = record { is = refl }
+
+pub sum_without_mask_row : SumWithoutMask
+unfolding running sum_without_mask
+sum_without_mask_row = record { is = refl }
+
+pub pending_places_alone_row : PendingPlacesAlone
+unfolding running pending_places_alone
+pending_places_alone_row = record { is = refl }
+
+pub forall_before_any_store_row : ForallBeforeAnyStore
+unfolding running forall_before_any_store
+forall_before_any_store_row = record { is = refl }
+
+pub turns_run_out_row : TurnsRunOut
+unfolding running turns_run_out
+turns_run_out_row = record { is = refl }
+
+pub shifts_row : Shifts
+unfolding running shifts
+shifts_row = record { is = refl }
+
+pub shape_before_many_one_row : ShapeBeforeManyOne
+unfolding running shape_before_many_one
+shape_before_many_one_row = record { is = refl }
+
+pub many_one_before_elements_row : ManyOneBeforeElements
+unfolding running many_one_before_elements
+many_one_before_elements_row = record { is = refl }

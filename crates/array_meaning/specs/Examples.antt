@@ -1,0 +1,193 @@
+-- Small sources that show what acts when.
+use Rattle.std.specs.Prelude.{false, Some, None, [], ◌∷◌}
+use Rattle.a95_base.specs.declared.fault.FaultKind.TheVariants as fault
+use Rattle.f95_unit.specs.declared.operation.UnaryOp.TheVariants as unary
+use Rattle.f95_unit.specs.declared.operation.BinaryOp.TheVariants as binary
+use Rattle.f95_unit.specs.declared.operation.Reduction.TheVariants as reduction
+use Rattle.f95_unit.specs.declared.operation.Rearranging.TheVariants as rearranging
+use Rattle.f95_unit.specs.declared.unit.DeclaredType.TheVariants as declared
+use Rattle.f95_unit.specs.declared.unit.Role.TheVariants as role
+use Rattle.f95_unit.specs.Plain.{typed, Named, Unary, Binary, Constructor, Reduced, Rearranged, at, Whole, Subscripted, no_subscript, subscript, One, Vector, Spans, Absent, Given, AllOf, no_item, value, no_argument, argument, masked, no_masked, assigning, no_other, elsewhere, Assigns, Masks, ForAll, Print, Do, no_stmt, stmt, Scalars, Explicit, Program}
+use Rattle.array_meaning.specs.Build.{ints, logs, int, index_at, target, assign, triplet, forall_over, span, entity, procedure, program, num, ended, faulted, going, Comes}
+
+--     program p
+--     integer :: a(5)
+--     a = (/1,2,3,4,5/)
+--     a(2:5) = a(1:4)
+--     print *, a
+--     end
+unfoldable pub shifted_section : Program
+shifted_section = program
+    ([])
+    (procedure 1 false false false
+    (entity 2 declared.Integer (Explicit (span Absent (int 5) ∷ [])) role.Own None ∷ [])
+    None
+    (stmt (Assigns (assign 3 (target (ints 1) (at 0 Whole AllOf)) (typed (ints 1) (Constructor (value (int 1) (value (int 2)
+    (value (int 3) (value (int 4) (value (int 5) no_item))))))))) (stmt (Assigns (assign 4 (target (ints 1) (at 0
+    (Subscripted (subscript (Spans (Given (int 2)) (Given (int 5)) Absent) no_subscript)) AllOf)) (typed (ints 1) (Named
+    (at 0 (Subscripted (subscript (Spans (Given (int 1)) (Given (int 4)) Absent) no_subscript)) AllOf))))) (stmt (Print 5
+    ((typed (ints 1) (Named (at 0 Whole AllOf))) ∷ [])) no_stmt))))
+    ([])
+
+abbrev pub ShiftedSection : Type 0
+ShiftedSection = Comes shifted_section ([]) 100 (ended ((num 1 ∷ num 1 ∷ num 2 ∷ num 3 ∷ num 4 ∷ []) ∷ []))
+
+--     program p; integer :: a(3); a = (/1,2,3/); where (a > 1) a = sum(a); print *, a; end
+unfoldable pub sum_without_mask : Program
+sum_without_mask = program
+    ([])
+    (procedure 1 false false false
+    (entity 1 declared.Integer (Explicit (span Absent (int 3) ∷ [])) role.Own None ∷ [])
+    None
+    (stmt (Assigns (assign 1 (target (ints 1) (at 0 Whole AllOf)) (typed (ints 1) (Constructor (value (int 1) (value (int 2)
+    (value (int 3) no_item))))))) (stmt (Masks (masked 1 (typed (logs 1) (Binary binary.Greater (typed (ints 1) (Named (at
+    0 Whole AllOf))) (int 1))) (assigning (assign 1 (target (ints 1) (at 0 Whole AllOf)) (typed (ints 0) (Reduced
+    reduction.Sum None (argument 0 (typed (ints 1) (Named (at 0 Whole AllOf))) no_argument)))) no_masked) no_other)) (stmt
+    (Print 1 ((typed (ints 1) (Named (at 0 Whole AllOf))) ∷ [])) no_stmt))))
+    ([])
+
+abbrev pub SumWithoutMask : Type 0
+SumWithoutMask = Comes sum_without_mask ([]) 100 (ended ((num 1 ∷ num 6 ∷ num 6 ∷ []) ∷ []))
+
+--     program p
+--     integer :: a(3), b(3)
+--     a = (/0,1,2/)
+--     b = 0
+--     where (a == 0)
+--       b = 9
+--     elsewhere (6 / a > 3)
+--       b = 1
+--     end where
+--     print *, b
+--     end
+unfoldable pub pending_places_alone : Program
+pending_places_alone = program
+    ([])
+    (procedure 1 false false false
+    (entity 2 declared.Integer (Explicit (span Absent (int 3) ∷ [])) role.Own None ∷ entity 2 declared.Integer (Explicit
+    (span Absent (int 3) ∷ [])) role.Own None ∷ [])
+    None
+    (stmt (Assigns (assign 3 (target (ints 1) (at 0 Whole AllOf)) (typed (ints 1) (Constructor (value (int 0) (value (int 1)
+    (value (int 2) no_item))))))) (stmt (Assigns (assign 4 (target (ints 1) (at 1 Whole AllOf)) (int 0))) (stmt (Masks
+    (masked 5 (typed (logs 1) (Binary binary.Equal (typed (ints 1) (Named (at 0 Whole AllOf))) (int 0))) (assigning (assign
+    6 (target (ints 1) (at 1 Whole AllOf)) (int 9)) no_masked) (elsewhere 7 (Some (typed (logs 1) (Binary binary.Greater
+    (typed (ints 1) (Binary binary.Divide (int 6) (typed (ints 1) (Named (at 0 Whole AllOf))))) (int 3)))) (assigning
+    (assign 8 (target (ints 1) (at 1 Whole AllOf)) (int 1)) no_masked) no_other))) (stmt (Print 10 ((typed (ints 1) (Named
+    (at 1 Whole AllOf))) ∷ [])) no_stmt)))))
+    ([])
+
+abbrev pub PendingPlacesAlone : Type 0
+PendingPlacesAlone = Comes pending_places_alone ([]) 100 (ended ((num 9 ∷ num 1 ∷ num 0 ∷ []) ∷ []))
+
+--     program p; integer :: a(4), i; a = (/1,2,3,4/); forall (i = 2:4) a(i) = a(i-1); print *, a; end
+unfoldable pub forall_before_any_store : Program
+forall_before_any_store = program
+    ([])
+    (procedure 1 false false false
+    (entity 1 declared.Integer (Explicit (span Absent (int 4) ∷ [])) role.Own None ∷ entity 1 declared.Integer Scalars
+    role.Own None ∷ [])
+    None
+    (stmt (Assigns (assign 1 (target (ints 1) (at 0 Whole AllOf)) (typed (ints 1) (Constructor (value (int 1) (value (int 2)
+    (value (int 3) (value (int 4) no_item)))))))) (stmt (ForAll (forall_over 1 (triplet (int 2) (int 4) Absent ∷ []) None
+    (assign 1 (target (ints 0) (at 0 (Subscripted (subscript (One (index_at 0)) no_subscript)) AllOf)) (typed (ints 0)
+    (Named (at 0 (Subscripted (subscript (One (typed (ints 0) (Binary binary.Subtract (index_at 0) (int 1))))
+    no_subscript)) AllOf))) ∷ []))) (stmt (Print 1 ((typed (ints 1) (Named (at 0 Whole AllOf))) ∷ [])) no_stmt))))
+    ([])
+
+abbrev pub ForallBeforeAnyStore : Type 0
+ForallBeforeAnyStore = Comes forall_before_any_store ([]) 100 (ended ((num 1 ∷ num 1 ∷ num 2 ∷ num 3 ∷ []) ∷ []))
+
+--     program p
+--     integer :: i
+--     do i = 1, 5
+--       print *, i
+--     end do
+--     end
+unfoldable pub turns_run_out : Program
+turns_run_out = program
+    ([])
+    (procedure 1 false false false
+    (entity 2 declared.Integer Scalars role.Own None ∷ [])
+    None
+    (stmt (Do 3 0 (int 1) (int 5) Absent (stmt (Print 4 ((typed (ints 0) (Named (at 0 Whole AllOf))) ∷ [])) no_stmt))
+    no_stmt))
+    ([])
+
+abbrev pub TurnsRunOut : Type 0
+TurnsRunOut = Comes turns_run_out ([]) 3 (going ((num 1 ∷ []) ∷ (num 2 ∷ []) ∷ (num 3 ∷ []) ∷ []))
+
+--     program p
+--     integer :: a(5), b(2,3)
+--     a = (/1,2,3,4,5/)
+--     b = reshape((/1,2,3,4,5,6/), (/2,3/))
+--     print *, cshift(a,1), cshift(a,-2), eoshift(a,2), eoshift(a,-1,9)
+--     print *, cshift(b,1), cshift(b,1,2), eoshift(b,1,0,2)
+--     end
+unfoldable pub shifts : Program
+shifts = program
+    ([])
+    (procedure 1 false false false
+    (entity 2 declared.Integer (Explicit (span Absent (int 5) ∷ [])) role.Own None ∷ entity 2 declared.Integer (Explicit
+    (span Absent (int 2) ∷ span Absent (int 3) ∷ [])) role.Own None ∷ [])
+    None
+    (stmt (Assigns (assign 3 (target (ints 1) (at 0 Whole AllOf)) (typed (ints 1) (Constructor (value (int 1) (value (int 2)
+    (value (int 3) (value (int 4) (value (int 5) no_item))))))))) (stmt (Assigns (assign 4 (target (ints 2) (at 1 Whole
+    AllOf)) (typed (ints 2) (Rearranged rearranging.Reshape None (argument 0 (typed (ints 1) (Constructor (value (int 1)
+    (value (int 2) (value (int 3) (value (int 4) (value (int 5) (value (int 6) no_item)))))))) (argument 1 (typed (ints 1)
+    (Constructor (value (int 2) (value (int 3) no_item)))) no_argument)))))) (stmt (Print 5 ((typed (ints 1) (Rearranged
+    rearranging.Cshift None (argument 0 (typed (ints 1) (Named (at 0 Whole AllOf))) (argument 1 (int 1) no_argument)))) ∷
+    (typed (ints 1) (Rearranged rearranging.Cshift None (argument 0 (typed (ints 1) (Named (at 0 Whole AllOf))) (argument 1
+    (typed (ints 0) (Unary unary.Minus (int 2))) no_argument)))) ∷ (typed (ints 1) (Rearranged rearranging.Eoshift None
+    (argument 0 (typed (ints 1) (Named (at 0 Whole AllOf))) (argument 1 (int 2) no_argument)))) ∷ (typed (ints 1)
+    (Rearranged rearranging.Eoshift None (argument 0 (typed (ints 1) (Named (at 0 Whole AllOf))) (argument 1 (typed (ints
+    0) (Unary unary.Minus (int 1))) (argument 2 (int 9) no_argument))))) ∷ [])) (stmt (Print 6 ((typed (ints 2) (Rearranged
+    rearranging.Cshift None (argument 0 (typed (ints 2) (Named (at 1 Whole AllOf))) (argument 1 (int 1) no_argument)))) ∷
+    (typed (ints 2) (Rearranged rearranging.Cshift (Some 2) (argument 0 (typed (ints 2) (Named (at 1 Whole AllOf)))
+    (argument 1 (int 1) no_argument)))) ∷ (typed (ints 2) (Rearranged rearranging.Eoshift (Some 2) (argument 0 (typed (ints
+    2) (Named (at 1 Whole AllOf))) (argument 1 (int 1) (argument 2 (int 0) no_argument))))) ∷ [])) no_stmt)))))
+    ([])
+
+abbrev pub Shifts : Type 0
+Shifts = Comes shifts ([]) 100 (ended ((num 2 ∷ num 3 ∷ num 4 ∷ num 5 ∷ num 1 ∷ num 4 ∷ num 5 ∷ num 1 ∷ num 2 ∷ num 3 ∷ num 3
+    ∷ num 4 ∷ num 5 ∷ num 0 ∷ num 0 ∷ num 9 ∷ num 1 ∷ num 2 ∷ num 3 ∷ num 4 ∷ []) ∷ (num 2 ∷ num 1 ∷ num 4 ∷ num 3 ∷ num 6 ∷
+    num 5 ∷ num 3 ∷ num 4 ∷ num 5 ∷ num 6 ∷ num 1 ∷ num 2 ∷ num 3 ∷ num 4 ∷ num 5 ∷ num 6 ∷ num 0 ∷ num 0 ∷ []) ∷ []))
+
+--     program p
+--     integer :: a(3), n
+--     n = 2
+--     a((/1,1,2/)) = a(1:n)
+--     end
+unfoldable pub shape_before_many_one : Program
+shape_before_many_one = program
+    ([])
+    (procedure 1 false false false
+    (entity 2 declared.Integer (Explicit (span Absent (int 3) ∷ [])) role.Own None ∷ entity 2 declared.Integer Scalars
+    role.Own None ∷ [])
+    None
+    (stmt (Assigns (assign 3 (target (ints 0) (at 1 Whole AllOf)) (int 2))) (stmt (Assigns (assign 4 (target (ints 1) (at 0
+    (Subscripted (subscript (Vector (typed (ints 1) (Constructor (value (int 1) (value (int 1) (value (int 2) no_item))))))
+    no_subscript)) AllOf)) (typed (ints 1) (Named (at 0 (Subscripted (subscript (Spans (Given (int 1)) (Given (typed (ints
+    0) (Named (at 1 Whole AllOf)))) Absent) no_subscript)) AllOf))))) no_stmt)))
+    ([])
+
+abbrev pub ShapeBeforeManyOne : Type 0
+ShapeBeforeManyOne = Comes shape_before_many_one ([]) 100 (faulted fault.Shape 4 ([]))
+
+--     program p
+--     integer :: a(3), b(2)
+--     a((/1,1/)) = 1 / b
+--     end
+unfoldable pub many_one_before_elements : Program
+many_one_before_elements = program
+    ([])
+    (procedure 1 false false false
+    (entity 2 declared.Integer (Explicit (span Absent (int 3) ∷ [])) role.Own None ∷ entity 2 declared.Integer (Explicit
+    (span Absent (int 2) ∷ [])) role.Own None ∷ [])
+    None
+    (stmt (Assigns (assign 3 (target (ints 1) (at 0 (Subscripted (subscript (Vector (typed (ints 1) (Constructor (value (int
+    1) (value (int 1) no_item))))) no_subscript)) AllOf)) (typed (ints 1) (Binary binary.Divide (int 1) (typed (ints 1)
+    (Named (at 1 Whole AllOf))))))) no_stmt))
+    ([])
+
+abbrev pub ManyOneBeforeElements : Type 0
+ManyOneBeforeElements = Comes many_one_before_elements ([]) 100 (faulted fault.ManyOne 3 ([]))

@@ -1,0 +1,16 @@
+pub mod Values
+pub mod Scalars
+pub mod State
+pub mod Sections
+pub mod Reductions
+pub mod Rearrangements
+pub mod Trees
+pub mod Expressions
+pub mod Assignments
+pub mod InputOutput
+pub mod Control
+pub mod Calls
+pub mod Run
+pub mod RunLaws
+pub mod Build
+pub mod Examples

@@ -1,0 +1,20 @@
+//! Laws of the meaning, for the layers above: each is the contract of a function that does nothing.
+
+ghost use Rattle.array_meaning.specs.RunLaws.{MoreTurns, ValuesAreFull, ConformingIsOneShape};
+
+/// More turns don't change how a source ended, and with more turns nothing that was written changes. A run has one outcome,
+/// since it is a function of the unit, the input and the number of turns.
+pub fn more_turns()
+    ensures { MoreTurns }
+{}
+
+/// The value of an expression has as many elements as its extents say.
+pub fn values_are_full()
+    ensures { ValuesAreFull }
+{}
+
+/// Where two shapes conform they are one, or one of them is that of a scalar.
+#[tactic(auto, using(crate::proofs::Wholeness::one_shape))]
+pub fn conforming_is_one_shape()
+    ensures { ConformingIsOneShape }
+{}
