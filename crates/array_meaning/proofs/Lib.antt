@@ -4,3 +4,4 @@ pub mod TurnsOfExpressions
 pub mod TurnsOfStatements
 pub mod Wholeness
 pub mod ExamplesRows
+pub mod Ignored

@@ -1,12 +1,12 @@
 -- One more turn: what ended comes out the same, and what was written while waiting begins what is written then. Each step is
 -- compared with itself in a state that has one more turn left, or with one that may go on for one more round.
-use Rattle.std.proofs.Common.{◌≡◌, refl, ap, sym, ℕ, zero, suc, Bool, true, false, List, [], ◌∷◌, ◌++◌, append_assoc, append-nil}
+use Rattle.std.proofs.Common.{◌≡◌, refl, sym, ℕ, zero, suc, Bool, true, false, List, [], ◌++◌, append_assoc, append-nil}
 use Rattle.std.specs.Prelude.{Option, Some, None, Result, Ok, Err}
 use Rattle.a95_base.specs.declared.fault.FaultKind.{FaultKind}
 use Rattle.a95_base.specs.declared.scalar.Scalar.{Scalar}
 use Rattle.a95_base.specs.Steps.{Ran, pure, stop, behind, ◌>>=◌, ◌>>◌}
 use Rattle.a95_base.specs.Outcome.{IsPrefix}
-use Rattle.array_meaning.specs.State.{State, Halt, Stopped, Faults, Waits, Step, Array, Variable, fault_at, unless, choose, given, living, turn_from, turn, turns_left, variable, set_variable, Bytes, store_all, put, unread, pass, own_of, back_to, inside}
+use Rattle.array_meaning.specs.State.{State, Halt, Stopped, Faults, Waits, Step, Array, Variable, fault_at, unless, choose, given, living, turn_from, turn, turns_left, variable, set_variable, Bytes, store_all, put, unread, pass, back_to, inside}
 
 -- ---- prefixes
 
@@ -42,6 +42,9 @@ pub record Grows {A : Type 0} (m m' : Step A) : Type 0 where
 
 abbrev pub Steady : {A : Type 0} → Step A → Type 0
 Steady m = Grows m m
+
+steady_by : {A : Type 0} {m : Step A} → ((s : State) → Same (m s) (m (more s))) → ((s : State) → IsPrefix s.written (m s).after.written) → Steady m
+steady_by h t = record { grows = h; first = record { tells = t }; second = record { tells = t } }
 
 -- ---- one step behind another
 
@@ -82,54 +85,54 @@ grows_next {m = m} {m' = m'} {n = n} {n' = n'} h g = record {
 
 pub steady_pure : {A : Type 0} (a : A) → Steady (pure a)
 unfolding pure
-steady_pure a = record { grows = λ s. (refl, refl); first = record { tells = λ s. prefix_refl s.written }; second = record { tells = λ s. prefix_refl s.written } }
+steady_pure a = steady_by (λ s. (refl, refl)) (λ s. prefix_refl s.written)
 
 pub steady_fault : {A : Type 0} (kind : FaultKind) (line : ℕ) → Steady (fault_at {A = A} kind line)
 unfolding fault_at stop
-steady_fault kind line = record { grows = λ s. (refl, refl); first = record { tells = λ s. prefix_refl s.written }; second = record { tells = λ s. prefix_refl s.written } }
+steady_fault kind line = steady_by (λ s. (refl, refl)) (λ s. prefix_refl s.written)
 
 pub steady_stopped : {A : Type 0} → Steady (stop {A = A} Stopped)
 unfolding stop
-steady_stopped = record { grows = λ s. (refl, refl); first = record { tells = λ s. prefix_refl s.written }; second = record { tells = λ s. prefix_refl s.written } }
+steady_stopped = steady_by (λ s. (refl, refl)) (λ s. prefix_refl s.written)
 
 pub steady_unless : (b : Bool) (kind : FaultKind) (line : ℕ) → Steady (unless b kind line)
 unfolding unless pure stop
-steady_unless true kind line = record { grows = λ s. (refl, refl); first = record { tells = λ s. prefix_refl s.written }; second = record { tells = λ s. prefix_refl s.written } }
-steady_unless false kind line = record { grows = λ s. (refl, refl); first = record { tells = λ s. prefix_refl s.written }; second = record { tells = λ s. prefix_refl s.written } }
+steady_unless true kind line = steady_by (λ s. (refl, refl)) (λ s. prefix_refl s.written)
+steady_unless false kind line = steady_by (λ s. (refl, refl)) (λ s. prefix_refl s.written)
 
 pub steady_given : {A : Type 0} (line : ℕ) (r : Result A FaultKind) → Steady (given line r)
 unfolding given pure stop
-steady_given line (Ok a) = record { grows = λ s. (refl, refl); first = record { tells = λ s. prefix_refl s.written }; second = record { tells = λ s. prefix_refl s.written } }
-steady_given line (Err kind) = record { grows = λ s. (refl, refl); first = record { tells = λ s. prefix_refl s.written }; second = record { tells = λ s. prefix_refl s.written } }
+steady_given line (Ok a) = steady_by (λ s. (refl, refl)) (λ s. prefix_refl s.written)
+steady_given line (Err kind) = steady_by (λ s. (refl, refl)) (λ s. prefix_refl s.written)
 
 pub steady_living : (line : ℕ) (held : Option Array) → Steady (living line held)
 unfolding living pure stop
-steady_living line (Some a) = record { grows = λ s. (refl, refl); first = record { tells = λ s. prefix_refl s.written }; second = record { tells = λ s. prefix_refl s.written } }
-steady_living line None = record { grows = λ s. (refl, refl); first = record { tells = λ s. prefix_refl s.written }; second = record { tells = λ s. prefix_refl s.written } }
+steady_living line (Some a) = steady_by (λ s. (refl, refl)) (λ s. prefix_refl s.written)
+steady_living line None = steady_by (λ s. (refl, refl)) (λ s. prefix_refl s.written)
 
 pub steady_variable : (n : ℕ) → Steady (variable n)
 unfolding variable pure
-steady_variable n = record { grows = λ s. (refl, refl); first = record { tells = λ s. prefix_refl s.written }; second = record { tells = λ s. prefix_refl s.written } }
+steady_variable n = steady_by (λ s. (refl, refl)) (λ s. prefix_refl s.written)
 
 pub steady_set : (n : ℕ) (v : Variable) → Steady (set_variable n v)
 unfolding set_variable pure
-steady_set n v = record { grows = λ s. (refl, refl); first = record { tells = λ s. prefix_refl s.written }; second = record { tells = λ s. prefix_refl s.written } }
+steady_set n v = steady_by (λ s. (refl, refl)) (λ s. prefix_refl s.written)
 
 pub steady_store : (n : ℕ) (bytes : Bytes) (stores : List (ℕ × Scalar)) → Steady (store_all n bytes stores)
 unfolding store_all set_variable pure
-steady_store n bytes stores = record { grows = λ s. (refl, refl); first = record { tells = λ s. prefix_refl s.written }; second = record { tells = λ s. prefix_refl s.written } }
+steady_store n bytes stores = steady_by (λ s. (refl, refl)) (λ s. prefix_refl s.written)
 
 pub steady_put : (bytes : List ℕ) → Steady (put bytes)
 unfolding put pure
-steady_put bytes = record { grows = λ s. (refl, refl); first = record { tells = λ s. record { more = bytes; is = refl } }; second = record { tells = λ s. record { more = bytes; is = refl } } }
+steady_put bytes = steady_by (λ s. (refl, refl)) (λ s. record { more = bytes; is = refl })
 
 pub steady_unread : Steady unread
 unfolding unread pure
-steady_unread = record { grows = λ s. (refl, refl); first = record { tells = λ s. prefix_refl s.written }; second = record { tells = λ s. prefix_refl s.written } }
+steady_unread = steady_by (λ s. (refl, refl)) (λ s. prefix_refl s.written)
 
 pub steady_pass : (n : ℕ) → Steady (pass n)
 unfolding pass pure
-steady_pass n = record { grows = λ s. (refl, refl); first = record { tells = λ s. prefix_refl s.written }; second = record { tells = λ s. prefix_refl s.written } }
+steady_pass n = steady_by (λ s. (refl, refl)) (λ s. prefix_refl s.written)
 
 pub grows_choose : {A : Type 0} (b : Bool) {m m' n n' : Step A} → Grows m m' → Grows n n' → Grows (choose b m n) (choose b m' n')
 unfolding choose
@@ -150,7 +153,7 @@ tells_turn_at (suc n) s = prefix_refl s.written
 
 pub steady_turn : Steady turn
 unfolding turn
-steady_turn = record { grows = λ s. turn_at s.left s refl; first = record { tells = λ s. tells_turn_at s.left s }; second = record { tells = λ s. tells_turn_at s.left s } }
+steady_turn = steady_by (λ s. turn_at s.left s refl) (λ s. tells_turn_at s.left s)
 
 pub tells_waits : {A : Type 0} → Tells (stop {A = A} Waits)
 unfolding stop
@@ -163,7 +166,7 @@ grows_waits h = record { grows = λ s. h.tells (more s); first = record { tells 
 
 pub steady_turns_left : {A : Type 0} {f : ℕ → Step A} → ((k : ℕ) → Grows (f k) (f (suc k))) → Steady (turns_left f)
 unfolding turns_left
-steady_turns_left h = record { grows = λ s. (h s.left).grows s; first = record { tells = λ s. (h s.left).first.tells s }; second = record { tells = λ s. (h s.left).first.tells s } }
+steady_turns_left h = steady_by (λ s. (h s.left).grows s) (λ s. (h s.left).first.tells s)
 
 -- ---- a callee's step on variables of its own
 

@@ -1,9 +1,7 @@
 -- One more turn, for element trees and for the parts of expressions: one line a case.
-use Rattle.std.proofs.Common.{ℕ, ℤ, pos, zero, suc, ◌+ℤ◌, Bool, true, false, List, [], ◌∷◌, ◌++◌}
-use Rattle.std.specs.Prelude.{Option, Some, None, map, not, ◌&&◌}
+use Rattle.std.proofs.Common.{ℕ, ℤ, zero, suc, ◌+ℤ◌, Bool, true, false, List, [], ◌∷◌, ◌++◌}
+use Rattle.std.specs.Prelude.{Option}
 use Rattle.a95_base.specs.declared.scalar.Scalar.{Scalar}
-use Rattle.a95_base.specs.Steps.{pure, ◌>>=◌, ◌>>◌}
-use Rattle.f95_unit.specs.declared.facts.Facts.{Facts}
 use Rattle.f95_unit.specs.declared.operation.Inquiry.{Inquiry}
 use Rattle.f95_unit.specs.declared.operation.Inquiry.TheVariants as inquiry
 use Rattle.f95_unit.specs.declared.operation.Reduction.{Reduction}
@@ -13,7 +11,7 @@ use Rattle.array_meaning.specs.State.{Dimension, Array, Variable, Step}
 use Rattle.array_meaning.specs.Sections.{Picked, Section, placed, read_section}
 use Rattle.array_meaning.specs.Trees.{Tree, Held, Opposed, Two, Each, CallEach, Trees, no_tree, tree, Passed, Caller, element, elements, all_from, masked_from, pairs_from, whole, valued, passed, paired}
 use Rattle.array_meaning.specs.Expressions.{number_of_value, rounds, gathered, asked, prepare, trees, values, actuals, reduction_values, answer, designate, pick, pick_each, pick_one, bound_or, part_bounds, gather, evaluate, integer, truth}
-use Rattle.array_meaning.proofs.Turns.{Steady, Grows, grows_then, grows_next, steady_pure, steady_unless, steady_given, steady_living, steady_variable, steady_turn, grows_choose}
+use Rattle.array_meaning.proofs.Turns.{Steady, grows_then, grows_next, steady_pure, steady_unless, steady_given, steady_living, steady_variable, steady_turn, grows_choose}
 
 -- what is done to a call that is compared with itself
 abbrev pub SteadyCalls : Caller → Type 0

@@ -1,18 +1,17 @@
 -- One more turn, for statements, calls and whole runs.
-use Rattle.std.proofs.Common.{◌≡◌, refl, subst, ℕ, ℤ, pos, zero, suc, ◌+◌, ◌-◌, ◌+ℤ◌, ◌≤◌, arith, Bool, true, false, List, [], ◌∷◌, ◌++◌}
+use Rattle.std.proofs.Common.{◌≡◌, refl, subst, ℕ, ℤ, zero, suc, ◌+◌, ◌-◌, ◌+ℤ◌, arith, Bool, true, false, List, [], ◌∷◌}
 use Rattle.std.specs.Prelude.{map, Option, Some, None, Result, Ok, Err}
 use Rattle.a95_base.specs.declared.scalar.Scalar.{Scalar}
-use Rattle.a95_base.specs.Steps.{pure, stop, ◌>>=◌, ◌>>◌}
 use Rattle.a95_base.specs.Input.{Reading, Integer, NoMore, NoInteger}
 use Rattle.a95_base.specs.Outcome.{Stop as Ending, Outcome, Finished, Going, Run, IsPrefix}
 use Rattle.f95_unit.specs.declared.unit.DeclaredType.{DeclaredType}
 use Rattle.f95_unit.specs.declared.unit.Role.{Role}
 use Rattle.f95_unit.specs.declared.unit.Role.TheVariants as role
 use Rattle.f95_unit.specs.Plain.{Expr, Bound, Span, Allocation, Target, Assign, Where, masked, MaskedBody, no_masked, assigning, narrowed, Others, no_other, elsewhere, Triplet, Forall, call, Stmt, Assigns, Masks, ForAll, Calls, Allocate, Deallocate, Print, Read, If, Select, Do, While, Forever, Exit, Cycle, Return, Stop, Stmts, no_stmt, stmt, Branches, no_branch, branch, Cases, no_case, case, Bounds, Scalars, Explicit, Assumed, Deferred, Entity, Procedure, Program}
-use Rattle.array_meaning.specs.Values.{Value, only}
-use Rattle.array_meaning.specs.State.{State, Halt, Stopped, Faults, Waits, Step, Bytes, Variable, turns_left}
+use Rattle.array_meaning.specs.Values.{Value}
+use Rattle.array_meaning.specs.State.{State, Halt, Stopped, Faults, Waits, Step, Bytes, Variable}
 use Rattle.array_meaning.specs.Sections.{Section}
-use Rattle.array_meaning.specs.Trees.{Tree, Passed, Caller}
+use Rattle.array_meaning.specs.Trees.{Tree, Caller}
 use Rattle.array_meaning.specs.Expressions.{procedure_at}
 use Rattle.array_meaning.specs.Assignments.{Control, with_truths, both, but_not, assigned, control_of, mask_truths, where_acts, masked_act, others_act, index_lists, active_of, active, one_combination, each_combination, indexed, forall_acts}
 use Rattle.array_meaning.specs.InputOutput.{taken, next_integer, read_places, skip_record, printed, prints, read_items, reads}
@@ -20,7 +19,7 @@ use Rattle.array_meaning.specs.Control.{Flow, Next, Leaves, Again, Returns, behi
 use Rattle.array_meaning.specs.Calls.{Actuals, passed_at, lower_bounds, bounds_act, own_acts, declaration_acts, declarations_act, initial_of, initial_acts, initials_act, body_acts, copy_back, copies_back, entered, called}
 use Rattle.array_meaning.specs.Run.{most_calls, start, outcome_of, run_of, main_acts, source_run}
 use Rattle.array_meaning.specs.RunLaws.{StaysBy, Stays, MoreTurns}
-use Rattle.array_meaning.proofs.Turns.{prefix_refl, prefix_trans, SameBy, Tells, Steady, Grows, grows_then, grows_next, tells_then, steady_pure, steady_fault, steady_stopped, steady_unless, steady_given, steady_living, steady_variable, steady_set, steady_store, steady_put, steady_unread, steady_pass, grows_choose, steady_turn, grows_waits, tells_waits, steady_turns_left, grows_inside}
+use Rattle.array_meaning.proofs.Turns.{prefix_refl, prefix_trans, SameBy, Steady, Grows, grows_then, grows_next, steady_pure, steady_fault, steady_stopped, steady_unless, steady_given, steady_living, steady_variable, steady_set, steady_store, steady_put, steady_unread, steady_pass, grows_choose, steady_turn, grows_waits, tells_waits, steady_turns_left, grows_inside}
 use Rattle.array_meaning.proofs.TurnsOfExpressions.{SteadyCalls, steady_all, steady_masked, steady_prepare, steady_actuals, steady_designate, steady_bound_or, steady_evaluate, steady_integer, steady_truth}
 
 module _ (unit : Program) (calls : Caller) (same : SteadyCalls calls) where

@@ -1,20 +1,19 @@
 -- A value has as many elements as its extents say, and shapes that conform are one.
-use Rattle.std.proofs.Common.{◌≡◌, ◌⊎◌, refl, sym, ap, ◌∙◌, subst, ℕ, ℤ, zero, suc, Bool, true, false, List, [], ◌∷◌, length, inl, inr}
+use Rattle.std.proofs.Common.{◌≡◌, refl, sym, ap, ◌∙◌, subst, ℕ, zero, suc, Bool, true, false, List, [], ◌∷◌, length, inl, inr}
 use Rattle.std.specs.Prelude.{if◌then◌else◌, Result, Ok, Err}
 use Rattle.std.specs.Cmp.Lexicographic.{same_text}
 use Rattle.a95_base.specs.declared.fault.FaultKind.{FaultKind}
 use Rattle.a95_base.specs.declared.fault.FaultKind.TheVariants as fault
-use Rattle.a95_base.specs.declared.scalar.Scalar.{Scalar}
-use Rattle.a95_base.specs.Steps.{pure, behind, ◌>>=◌}
-use Rattle.array_meaning.specs.Values.{Value, size_of, is_shape, joint}
+use Rattle.a95_base.specs.Steps.{pure, behind, ◌>>=◌, ◌>>◌}
+use Rattle.array_meaning.specs.Values.{Value, size_of, is_shape}
 use Rattle.array_meaning.specs.State.{State, Halt, Step}
 use Rattle.array_meaning.specs.Trees.{Tree, Caller, element, all_from, whole}
-use Rattle.array_meaning.specs.Expressions.{prepare, evaluate}
+use Rattle.array_meaning.specs.Expressions.{prepare}
 use Rattle.array_meaning.specs.RunLaws.{ValuesAreFull, ConformingIsOneShape}
 
 -- where a step comes to a value, something holds of it
-record Gives {A : Type 0} (P : A → Type 0) (m : Step A) : Type 0 where
-  gives : (s : State) (a : A) → (m s).came ≡ Ok a → P a
+pub record Gives {A : Type 0} (P : A → Type 0) (m : Step A) : Type 0 where
+  pub gives : (s : State) (a : A) → (m s).came ≡ Ok a → P a
 
 value_or : {A E : Type 0} → A → Result A E → A
 value_or d (Ok a) = a
@@ -27,7 +26,7 @@ ok_same : {A E : Type 0} (a b : A) → ok {E = E} a ≡ ok b → a ≡ b
 unfolding value_or
 ok_same a b e = ap (value_or a) e
 
-gives_pure : {A : Type 0} (P : A → Type 0) (a : A) → P a → Gives P (pure a)
+pub gives_pure : {A : Type 0} (P : A → Type 0) (a : A) → P a → Gives P (pure a)
 unfolding pure
 gives_pure P a h = record { gives = λ s b e. subst P (ok_same {E = Halt} a b e) h }
 
@@ -37,12 +36,16 @@ unfolding behind
 gives_behind Q P f (Ok a) s q g b e = (g a (q a refl)).gives s b e
 gives_behind Q P f (Err halt) s q g b e = cc
 
-gives_then : {A B : Type 0} (Q : A → Type 0) (P : B → Type 0) {m : Step A} {f : A → Step B} → Gives Q m → ((a : A) → Q a → Gives P (f a)) → Gives P (m >>= f)
+pub gives_then : {A B : Type 0} (Q : A → Type 0) (P : B → Type 0) {m : Step A} {f : A → Step B} → Gives Q m → ((a : A) → Q a → Gives P (f a)) → Gives P (m >>= f)
 unfolding ◌>>=◌
 gives_then Q P {m = m} {f = f} h g = record { gives = λ s b e. gives_behind Q P f (m s).came (m s).after (h.gives s) g b e }
 
-gives_any : {A : Type 0} (m : Step A) → Gives (λ a. Unit {0}) m
+pub gives_any : {A : Type 0} (m : Step A) → Gives (λ a. Unit {0}) m
 gives_any m = record { gives = λ s a e. tt }
+
+pub gives_next : {A B : Type 0} (P : B → Type 0) (m : Step A) {n : Step B} → Gives P n → Gives P (m >> n)
+unfolding ◌>>◌ ◌>>=◌
+gives_next P m {n = n} g = record { gives = (gives_then (λ a. Unit {0}) P {f = λ a. n} (gives_any m) (λ a u. g)).gives }
 
 module _ (calls : Caller) (line : ℕ) where
   all_length : (k n : ℕ) (t : Tree) → Gives (λ xs. length xs ≡ n) (all_from calls line k n t)

@@ -1,6 +1,6 @@
 -- Short words for small units, and for how a run comes out. Facts tell the rank alone: the meaning asks for no extent
 -- that a reader knows.
-use Rattle.std.specs.Prelude.{◌≡◌, ℕ, pos, neg_ℤ, Bool, Option, Some, None, List, [], ◌∷◌, ◌++◌, fold, replicate}
+use Rattle.std.specs.Prelude.{◌≡◌, ℕ, pos, neg_ℤ, Bool, Option, Some, None, List, [], ◌++◌, fold, replicate}
 use Rattle.a95_base.specs.declared.fault.FaultKind.{FaultKind}
 use Rattle.a95_base.specs.declared.scalar.Scalar.{Scalar}
 use Rattle.a95_base.specs.declared.scalar.Scalar.TheVariants as scalar

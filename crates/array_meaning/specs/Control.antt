@@ -1,5 +1,5 @@
 -- Statements: choices, loops and what leaves them, allocation, and the statements of the other files.
-use Rattle.std.specs.Prelude.{ℕ, ℤ, pos, zero, suc, ◌+ℤ◌, Bool, true, not, ◌&&◌, nat_le, if◌then◌else◌, None, is_some, List, [], ◌∷◌, slice_index_or}
+use Rattle.std.specs.Prelude.{ℕ, ℤ, pos, zero, suc, ◌+ℤ◌, Bool, true, not, ◌&&◌, nat_le, None, is_some, List, [], ◌∷◌, slice_index_or}
 use Rattle.std.specs.List.{list_any}
 use Rattle.std.specs.Ordering.{int_eq, is_eq, is_le, is_ge}
 use Rattle.a95_base.specs.declared.fault.FaultKind.TheVariants as fault

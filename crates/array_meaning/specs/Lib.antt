@@ -14,3 +14,4 @@ pub mod Run
 pub mod RunLaws
 pub mod Build
 pub mod Examples
+pub mod Frames

@@ -1,6 +1,6 @@
 -- The functions that make one value of many elements, and those that ask for shapes and bounds. Each takes its arguments with
 -- their places among the dummies. Along a dimension, a reduction is that of each line of elements along it.
-use Rattle.std.specs.Prelude.{ℕ, ℤ, pos, negsuc, suc, zero, ◌-◌, Bool, true, false, not, ◌&&◌, nat_eq, int_lt, if◌then◌else◌, Option, Some, None, List, [], ◌∷◌, ◌++◌, map, length, fold, filter, find, zip, drop, take, slice_index_or, Result, Ok, Err}
+use Rattle.std.specs.Prelude.{ℕ, ℤ, pos, negsuc, suc, ◌-◌, Bool, true, false, not, ◌&&◌, nat_eq, int_lt, if◌then◌else◌, Option, Some, None, List, [], ◌∷◌, ◌++◌, map, length, fold, filter, find, zip, drop, take, slice_index_or, Result, Ok, Err}
 use Rattle.std.specs.List.{list_all, list_any}
 use Rattle.a95_base.specs.declared.fault.FaultKind.{FaultKind}
 use Rattle.a95_base.specs.declared.fault.FaultKind.TheVariants as fault

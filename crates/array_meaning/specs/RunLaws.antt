@@ -1,5 +1,5 @@
 -- What is known of every run, and of every value that an expression comes to.
-use Rattle.std.specs.Prelude.{◌≡◌, ◌⊎◌, ℕ, ℤ, ◌≤◌, List, [], length, Result, Ok}
+use Rattle.std.specs.Prelude.{◌≡◌, ◌⊎◌, ℕ, ℤ, ◌≤◌, List, [], length, Ok}
 use Rattle.a95_base.specs.Outcome.{Stop, Outcome, Finished, Going, Run, IsPrefix}
 use Rattle.f95_unit.specs.Plain.{Expr, Program}
 use Rattle.array_meaning.specs.Values.{Value, size_of, joint}

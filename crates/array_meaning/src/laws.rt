@@ -1,5 +1,6 @@
 //! Laws of the meaning, for the layers above: each is the contract of a function that does nothing.
 
+ghost use Rattle.array_meaning.specs.Frames.{StoresLeaveOthers, ValuesIgnoreOthers};
 ghost use Rattle.array_meaning.specs.RunLaws.{MoreTurns, ValuesAreFull, ConformingIsOneShape};
 
 /// More turns don't change how a source ended, and with more turns nothing that was written changes. A run has one outcome,
@@ -17,4 +18,15 @@ pub fn values_are_full()
 #[tactic(auto, using(crate::proofs::Wholeness::one_shape))]
 pub fn conforming_is_one_shape()
     ensures { ConformingIsOneShape }
+{}
+
+/// The value of an expression doesn't depend on a variable that it doesn't name, and evaluating it leaves that variable alone, if
+/// calls do so.
+pub fn values_ignore_others()
+    ensures { ValuesIgnoreOthers }
+{}
+
+/// A store changes its variable, and no other one, no input, no output and no turn.
+pub fn stores_leave_others()
+    ensures { StoresLeaveOthers }
 {}

@@ -13,4 +13,6 @@ mod examples;
 mod laws;
 
 pub use examples::examples_rows;
-pub use laws::{conforming_is_one_shape, more_turns, values_are_full};
+pub use laws::{
+    conforming_is_one_shape, more_turns, stores_leave_others, values_are_full, values_ignore_others,
+};
