@@ -1,3 +1,4 @@
+//! The greedy choice of a legal order, from the outermost loop inward.
 ghost use Rattle.std.specs.Prelude.{◌≡◌, ◌+◌, ◌≤◌, ◌<◌, ◌||◌, List, IfSome, IfNone, find, option_map};
 ghost use Rattle.a95_base.specs.Lists.{down_to_one};
 ghost use Rattle.rank_shape.specs.Order.{Level};

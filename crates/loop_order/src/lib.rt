@@ -8,6 +8,3 @@ mod sign;
 
 pub use choice::choose;
 pub use order::{legal, reads_come_first, stores_come_first};
-
-#[cfg(test)]
-mod tests;

@@ -1,3 +1,4 @@
+//! Which orders are legal, and what a legal order gives.
 ghost use Rattle.std.specs.Prelude.{◌≡◌, ◌↔◌, IsTrue};
 ghost use Rattle.std.specs.List.{list_all};
 ghost use Rattle.a95_base.specs.Lists.{Every, Pairwise};

@@ -1,3 +1,4 @@
+//! The signs of the entries of distances.
 ghost use Rattle.std.specs.Prelude.{◌≡◌, ◌+◌, ◌<◌, slice_index_or};
 ghost use Rattle.rank_shape.specs.declared.distance.Entry.TheVariants as entry;
 ghost use Rattle.loop_order.specs.Choice.{is_still};

@@ -1,3 +1,4 @@
+//! The atoms of LoopC: what is read, what is passed, and the operators.
 ghost use Rattle.std.specs.Prelude.{◌≡◌, IfOk};
 
 use a95_base::Bytes;

@@ -1,3 +1,4 @@
+//! The lines of a function, in the order of its text: `specs/Lines.antt` says which they are.
 ghost use Rattle.std.specs.Prelude.{◌≡◌, ◌++◌, IfOk, OnOk};
 ghost use Rattle.loop_tree.specs.Lines.{flat, flats, lines_of};
 

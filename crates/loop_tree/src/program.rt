@@ -1,3 +1,4 @@
+//! Whole programs.
 ghost use Rattle.std.specs.Prelude.{◌≡◌};
 ghost use Rattle.loop_tree.specs.Program.{IsProgram};
 

@@ -1,3 +1,4 @@
+//! The rows of LoopC: the statements of one line that open no brace, by what they do.
 use crate::atom::{Argument, Atom, Operator, Reference, TextAtom};
 use a95_base::FaultKind;
 use sqlite_items::{Boxed, Items};

@@ -1,3 +1,4 @@
+//! The stack in which the reader and the machine keep what is open.
 ghost use Rattle.std.specs.Prelude.{◌≡◌, [], ◌∷◌, length, reverse, ◌<◌, ◌^◌, OnOk, OnErr, MatchOption};
 ghost use Rattle.loop_tree.specs.Machine.{rest_of};
 

@@ -1,3 +1,4 @@
+//! Statements, functions and their lines.
 use crate::atom::{Atom, Letter};
 use crate::row::Row;
 use sqlite_items::{Boxed, Items};

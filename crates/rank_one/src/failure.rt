@@ -1,3 +1,4 @@
+//! Why a part of a source was not read.
 ghost use Rattle.std.specs.Prelude.{◌≡◌};
 ghost use Rattle.rank_one.specs.declared.failure.Failure.TheVariants.{Memory};
 

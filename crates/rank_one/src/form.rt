@@ -1,3 +1,4 @@
+//! The forms of statements, by names.
 use crate::token::Word;
 use sqlite_items::Items;
 

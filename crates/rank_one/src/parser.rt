@@ -1,3 +1,4 @@
+//! The form of a statement, from its tokens.
 ghost use Rattle.std.specs.Prelude.{◌≡◌, ◌∷◌, ◌++◌, [], length, ◌<◌};
 ghost use Rattle.rank_one.specs.Conditions.{is_name};
 ghost use Rattle.rank_one.specs.Parsing.{Gives, TakesTerm, name_from, closed_from, number_from, extent_from, factor_from, sum_of, names_behind, entity_from, entities_behind, end_of, program_of, declaration_of, assignment_of, print_of, form_of};

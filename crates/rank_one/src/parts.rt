@@ -1,3 +1,4 @@
+//! A text cut at a separator.
 ghost use Rattle.std.specs.Prelude.{◌≡◌, ◌==◌, ◌≤◌, [], ◌∷◌, length, drop, MatchOption};
 ghost use Rattle.std.specs.List.{slice_split, position_or_len};
 

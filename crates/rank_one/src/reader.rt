@@ -1,3 +1,4 @@
+//! Reads a source statement by statement, and keeps what was declared.
 ghost use Rattle.std.specs.Prelude.{◌≡◌, ◌==◌, ◌∷◌, ◌++◌, ◌≤◌, ◌^◌, [], length, map, Ok, Err};
 ghost use Rattle.std.specs.List.{slice_split};
 ghost use Rattle.rank_one.specs.Tokens.{statements_on, lines_of};

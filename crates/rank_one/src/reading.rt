@@ -1,3 +1,4 @@
+//! Reads a whole text: the unit, or the least rule that it breaks (`specs/Reading.antt`).
 ghost use Rattle.std.specs.Prelude.{◌≡◌, ◌≤◌, ℕ, length, IfOk, IfErr};
 ghost use Rattle.rank_one.specs.Reading.{folded, Reads, IsBroken};
 ghost use Rattle.rank_one.specs.Typed.{IsTyped, size_of};

@@ -1,3 +1,4 @@
+//! The arrays that were declared, by their names.
 ghost use Rattle.std.specs.Prelude.{◌≡◌, ◌∷◌, ◌++◌, [], ◌<◌, ◌^◌, length, map, IfOk, OnOk, Some, None, slice_get};
 ghost use Rattle.std.specs.Option.{option_map};
 ghost use Rattle.rank_one.specs.Conditions.{place_of, extent_of};

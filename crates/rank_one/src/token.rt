@@ -1,3 +1,4 @@
+//! Words and tokens.
 ghost use Rattle.std.specs.Prelude.{◌≡◌};
 ghost use Rattle.std.specs.Str.{bytes_eq};
 

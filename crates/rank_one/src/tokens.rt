@@ -1,3 +1,4 @@
+//! The tokens of a statement, from its text (`specs/Tokens.antt`).
 ghost use Rattle.std.specs.Prelude.{◌≡◌, ◌<◌, ◌≤◌, ℕ, Bool, false, true, [], ◌∷◌, length, drop, IsTrue, ◌↔◌, MatchOption, slice_index};
 ghost use Rattle.std.specs.List.{prefix_len, list_all};
 ghost use Rattle.std.specs.Str.Parse.{digits_value};

@@ -1,3 +1,4 @@
+//! The typed unit of the first source form. What it means stands in `specs/Meaning.antt`.
 use sqlite_items::Items;
 
 /// What a source reads as: its arrays in the order of their declarations, and its statements. A place is an index into

@@ -1,3 +1,4 @@
+//! Shapes of any rank.
 ghost use Rattle.std.specs.Prelude.{◌≡◌, pos, length};
 ghost use Rattle.rank_shape.specs.AnyShape.{extents_of};
 ghost use Rattle.rank_shape.specs.Shape.{size_of};

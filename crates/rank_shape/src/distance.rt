@@ -1,3 +1,4 @@
+//! Distances between the turns that store and read one place.
 /// One entry of a distance: how many turns of its loop lie between two accesses of one place, or Any where that isn't known.
 #[derive(Clone, Copy, Debug, PartialEq, Eq)]
 pub enum Entry {

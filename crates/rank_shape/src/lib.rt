@@ -13,6 +13,3 @@ pub use distance::{Dist, Entry};
 pub use order::Order;
 pub use shape::{Place, Shape};
 pub use tour::{Tour, element_order_walk, walk};
-
-#[cfg(test)]
-mod tests;

@@ -1,3 +1,4 @@
+//! Orders of loops.
 ghost use Rattle.std.specs.Prelude.{◌≡◌, ℕ, ◌<◌, ◌≤◌, ◌↔◌, length, IsSome, IfSome, IsTrue};
 ghost use Rattle.a95_base.specs.Lists.{Member};
 ghost use Rattle.rank_shape.specs.Order.{levels, level_at, IsOrder, element_order_of};

@@ -1,3 +1,4 @@
+//! Walks over the places of a shape.
 ghost use Rattle.std.specs.Prelude.{◌≡◌, ◌<◌, ◌≤◌, ◌^◌, map, pos};
 ghost use Rattle.rank_shape.specs.Order.{element_order_of};
 ghost use Rattle.rank_shape.specs.Shape.{places_of};

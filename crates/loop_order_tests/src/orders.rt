@@ -1,4 +1,5 @@
-use super::*;
+//! Legal orders, and the choice of one.
+use loop_order::{choose, legal, reads_come_first, stores_come_first};
 use rank_shape::{Dist, Entry, Order, Shape, walk};
 use std::test::Fail;
 

@@ -1,4 +1,5 @@
-use super::*;
+//! Shapes, places, orders and walks.
+use rank_shape::{AnyShape, Order, Place, Shape, element_order_walk, walk};
 use std::test::Fail;
 
 #[test]
