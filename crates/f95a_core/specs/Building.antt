@@ -3,15 +3,13 @@ use Rattle.std.specs.Prelude.{◌≡◌, ◌≢◌, ◌⊎◌, ℕ, List, length
 use Rattle.std.specs.Io.KnownBytes.{Appends}
 use Rattle.io_edge.specs.Causes.{Rose}
 use Rattle.io_edge.specs.Known.{AppendsPrefix}
-use Rattle.rank_one.specs.declared.unit.Unit.{Unit}
-use Rattle.rank_one.specs.Reading.{Reads, IsBroken, IsLeastBroken}
 use Rattle.loop_tree.specs.declared.tree.Function.{Function}
 use Rattle.loop_tree.specs.Program.{ReadsText}
 use Rattle.f95a_core.specs.declared.status.Status.{Status}
 use Rattle.f95a_core.specs.declared.status.Status.TheVariants as status
 use Rattle.f95a_core.specs.Outside.{Files, Stream, Told, NoLoadFailed, LoadFailed, Unwritten}
 use Rattle.loop_laws.specs.Follows.{Follows}
-use Rattle.f95a_core.specs.Source.{IsUnbroken, source_run, turn_bound}
+use Rattle.f95a_core.specs.Source.{Unit, Reads, IsBroken, IsLeastBroken, IsUnbroken, source_run, turn_bound}
 use Rattle.f95a_core.specs.Answers.{IsFailure}
 
 -- the program follows the unit that the bytes read as

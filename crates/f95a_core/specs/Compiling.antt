@@ -1,8 +1,8 @@
 -- When a source has no program.
 use Rattle.std.specs.Prelude.{ℕ, List}
+use Rattle.f95a_core.specs.Source.{IsLeastBroken}
 use Rattle.f95a_core.specs.declared.compiling.CompileRefusal.{CompileRefusal}
 use Rattle.f95a_core.specs.declared.compiling.CompileRefusal.TheVariants as refusal
-use Rattle.rank_one.specs.Reading.{IsLeastBroken}
 
 -- it breaks this rule, and none that is less; want of memory is free
 abbrev pub IsRefusedFor : CompileRefusal → List ℕ → Type 0

@@ -5,11 +5,9 @@ use Rattle.loop_tree.specs.declared.stuck.StuckState.{StuckState}
 use Rattle.loop_tree.specs.State.{End, Stuck}
 use Rattle.loop_laws.specs.Follows.{DoesBackward, HasDone}
 use Rattle.loop_text.specs.Refused.{IsRefusedLine}
-use Rattle.rank_one.specs.declared.unit.Unit.{Unit}
-use Rattle.rank_one.specs.Reading.{Reads}
 use Rattle.f95a_core.specs.Building.{Builds}
 use Rattle.f95a_core.specs.Running.{job, Executes}
-use Rattle.f95a_core.specs.Source.{source_run, turn_bound}
+use Rattle.f95a_core.specs.Source.{Unit, Reads, source_run, turn_bound}
 
 -- The run of a text on an input, within so many turns, against the unit of its source: what the run ends or faults with,
 -- the source does; while it goes on, what it wrote begins what the source writes; it is never stuck. And with as many turns

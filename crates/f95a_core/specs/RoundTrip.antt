@@ -3,7 +3,7 @@ use Rattle.std.specs.Prelude.{◌≡◌, ℕ, ◌<◌, List, [], length, Some, �
 use Rattle.a95_base.specs.Outcome.{Finished, Going, Ended, Faulted}
 use Rattle.loop_tree.specs.State.{Comes, Stuck}
 use Rattle.loop_text.specs.Refused.{IsRefusedLine}
-use Rattle.rank_one.specs.Reading.{IsLeastBroken}
+use Rattle.f95a_core.specs.Source.{IsLeastBroken}
 use Rattle.f95a_core.specs.declared.status.Status.{Status}
 use Rattle.f95a_core.specs.declared.status.Status.TheVariants as status
 use Rattle.f95a_core.specs.Commands.{default_turns}

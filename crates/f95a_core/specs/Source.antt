@@ -1,17 +1,32 @@
--- The source language, as the rest of this crate knows it: which unit bytes read as, which rules they break, and what a unit means.
+-- The source language, as the definitions of this crate know it: the units, which unit bytes read as, which rules they break,
+-- and what a unit means. No other definition here names the crate that reads, but for the lowering's.
 use Rattle.std.specs.Prelude.{ℕ, ◌+◌, ◌*◌, ◌^◌, List}
 use Rattle.a95_base.specs.Outcome.{Stop, Ended, Finished, Run}
-use Rattle.rank_one.specs.declared.unit.Unit.{Unit}
+use Rattle.rank_one.specs.declared.unit.Unit as unit
 use Rattle.rank_one.specs.Meaning.{output}
-use Rattle.rank_one.specs.Reading.{IsBroken}
+use Rattle.rank_one.specs.Reading as reading
 
--- a source of the first form takes no input, begins no turn and has no fault
-abbrev pub source_run : Unit → List ℕ → ℕ → Run Stop
-source_run unit input turns = record { written = output unit; outcome = Finished Ended }
+abbrev pub Unit : Type 0
+Unit = unit.Unit
 
--- the bytes break no rule
+-- the bytes read as this unit
+abbrev pub Reads : List ℕ → Unit → Type 0
+Reads bytes unit = reading.Reads bytes unit
+
+-- the bytes break this rule of this phase on this line; and it is the least that they break
+abbrev pub IsBroken : List ℕ → ℕ → ℕ → ℕ → Type 0
+IsBroken bytes phase line rule = reading.IsBroken bytes phase line rule
+
+abbrev pub IsLeastBroken : List ℕ → ℕ → ℕ → ℕ → Type 0
+IsLeastBroken bytes phase line rule = reading.IsLeastBroken bytes phase line rule
+
+-- they break none
 abbrev pub IsUnbroken : List ℕ → Type 0
 IsUnbroken bytes = (phase line rule : ℕ) → IsBroken bytes phase line rule → ⊥
+
+-- what a unit does on an input within so many turns: one of the first form takes no input, begins no turn and has no fault
+abbrev pub source_run : Unit → List ℕ → ℕ → Run Stop
+source_run unit input turns = record { written = output unit; outcome = Finished Ended }
 
 -- the turns that a program may need for so many turns of its source, which has so many bytes
 abbrev pub turn_bound : ℕ → ℕ → ℕ

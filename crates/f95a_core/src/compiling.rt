@@ -10,12 +10,15 @@ use a95_base::{Line, Memory, Rule};
 use loop_tree::LoopProgram;
 use loop_writer::collect;
 use std::alloc::Global;
+use thiserror::Error;
 
 /// Why a source has no program.
-#[derive(Clone, Copy, Debug, PartialEq, Eq)]
+#[derive(Clone, Copy, Debug, PartialEq, Eq, Error)]
 pub enum CompileRefusal {
     /// The least rule that the source breaks.
+    #[error("phase {phase}, line {}, rule P{}", .line.0, .rule.0)]
     Refused { phase: u8, line: Line, rule: Rule },
+    #[error("no memory")]
     Memory,
 }
 
