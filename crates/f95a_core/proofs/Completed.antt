@@ -38,27 +38,27 @@ ran_whole program_law outcome_law job came taken out out' notes notes' result w 
       | inr f ↦ inr f
     ]
 
-pub runs_text : OneProgram → OneOutcome → (name : List ℕ) (turns : ℕ) (files files' : Files) (input input' out out' notes notes' : Stream) (came result : Status) →
-    Noted came result notes notes' → RunComesTo name turns files files' input input' out out' came → RunsText (job (files.file name) input.bytes turns) out out' result
-runs_text one same name turns files files' input input' out out' notes notes' status.Done result noted h =
+pub runs_text : OneProgram → OneOutcome → (name : List ℕ) (turns : ℕ) (files files' : Files) (input input' out out' notes notes' : Stream) (same_input same_output : Type 0) (came result : Status) →
+    Noted came result notes notes' → RunComesTo name turns files files' input input' out out' same_input same_output came → RunsText (job (files.file name) input.bytes turns) out out' result
+runs_text one same name turns files files' input input' out out' notes notes' same_input same_output status.Done result noted h =
     ran_whole one same (job (files.file name) input.bytes turns) (Finished (Comes Ended)) input' out out' notes notes' result h.1 noted
-runs_text one same name turns files files' input input' out out' notes notes' (status.Fault kind line) result noted h =
+runs_text one same name turns files files' input input' out out' notes notes' same_input same_output (status.Fault kind line) result noted h =
     ran_whole one same (job (files.file name) input.bytes turns) (Finished (Comes (Faulted kind line.0))) input' out out' notes notes' result h.1 noted
-runs_text one same name turns files files' input input' out out' notes notes' (status.Stuck why) result noted h =
+runs_text one same name turns files files' input input' out out' notes notes' same_input same_output (status.Stuck why) result noted h =
     ran_whole one same (job (files.file name) input.bytes turns) (Finished (Stuck why)) input' out out' notes notes' result h.1 noted
-runs_text one same name turns files files' input input' out out' notes notes' status.TurnLimit result noted h =
+runs_text one same name turns files files' input input' out out' notes notes' same_input same_output status.TurnLimit result noted h =
     ran_whole one same (job (files.file name) input.bytes turns) Going input' out out' notes notes' result h.1 noted
-runs_text one same name turns files files' input input' out out' notes notes' (status.TextRefused line) result noted h =
+runs_text one same name turns files files' input input' out out' notes notes' same_input same_output (status.TextRefused line) result noted h =
     λ text program bytes written outcome file reads held short runs.
     absurd (h.1.holds.refused.no_text program (subst (λ (t : List ℕ). ReadsText t program) (sym (one_told (files.file name) h.1.bytes text h.1.is file)) reads))
-runs_text one same name turns files files' input input' out out' notes notes' status.InputTooLong result noted h =
+runs_text one same name turns files files' input input' out out' notes notes' same_input same_output status.InputTooLong result noted h =
     λ text program bytes written outcome file reads held short runs.
     let is : h.2.input ≡ bytes = one_told input.bytes h.2.input bytes h.2.held held in
     absurd (omega (arith, ap length is, h.2.long, short))
-runs_text one same name turns files files' input input' out out' notes notes' status.ReadFault result noted h =
+runs_text one same name turns files files' input input' out out' notes notes' same_input same_output status.ReadFault result noted h =
     λ text program bytes written outcome file reads held short runs. inr (failure_stays status.ReadFault result notes notes' noted (inl refl))
-runs_text one same name turns files files' input input' out out' notes notes' status.WriteFault result noted h =
+runs_text one same name turns files files' input input' out out' notes notes' same_input same_output status.WriteFault result noted h =
     λ text program bytes written outcome file reads held short runs. inr (failure_stays status.WriteFault result notes notes' noted (inr (inl refl)))
-runs_text one same name turns files files' input input' out out' notes notes' status.Memory result noted h =
+runs_text one same name turns files files' input input' out out' notes notes' same_input same_output status.Memory result noted h =
     λ text program bytes written outcome file reads held short runs. inr (failure_stays status.Memory result notes notes' noted (inr (inr refl)))
-runs_text one same name turns files files' input input' out out' notes notes' other result noted h = absurd h
+runs_text one same name turns files files' input input' out out' notes notes' same_input same_output other result noted h = absurd h

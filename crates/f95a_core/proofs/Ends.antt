@@ -40,14 +40,14 @@ module _ (name : List ℕ) (turns : ℕ) (files files' : Files) (input input' ou
     appended = w.appended;
   }
 
-  pub executed : (e : end.End) (to : State) → machine.RunsTo program (start program bytes) turns e to out.bytes out'.bytes → (e ≡ ends.WriteFault → Rose out.faults out'.faults)
-      → RunComesTo name turns files files' input input' out out' (status_of_end e)
-  executed ends.Ended to h rose = (r.loaded, writes (Finished (Comes Ended)) h)
-  executed (ends.Fault kind line) to h rose = (r.loaded, writes (Finished (Comes (Faulted kind line.0))) h)
-  executed (ends.Stuck why) to h rose = (r.loaded, writes (Finished (Stuck why)) h)
-  executed ends.TurnLimit to h rose = (r.loaded, writes Going (record { written = h.written; runs = h.runs; appended = h.appended }))
-  executed ends.WriteFault to h rose = (r.loaded, rose refl, writes_prefix h)
-  executed ends.Memory to h rose = (r.loaded, inr (writes_prefix h))
+  pub executed : (same_input same_output : Type 0) (e : end.End) (to : State) → machine.RunsTo program (start program bytes) turns e to out.bytes out'.bytes → (e ≡ ends.WriteFault → Rose out.faults out'.faults)
+      → RunComesTo name turns files files' input input' out out' same_input same_output (status_of_end e)
+  executed same_input same_output ends.Ended to h rose = (r.loaded, writes (Finished (Comes Ended)) h)
+  executed same_input same_output (ends.Fault kind line) to h rose = (r.loaded, writes (Finished (Comes (Faulted kind line.0))) h)
+  executed same_input same_output (ends.Stuck why) to h rose = (r.loaded, writes (Finished (Stuck why)) h)
+  executed same_input same_output ends.TurnLimit to h rose = (r.loaded, writes Going (record { written = h.written; runs = h.runs; appended = h.appended }))
+  executed same_input same_output ends.WriteFault to h rose = (r.loaded, rose refl, writes_prefix h)
+  executed same_input same_output ends.Memory to h rose = (r.loaded, inr (writes_prefix h))
 
 -- what was loaded into an empty buffer is the file, where it is told
 pub told_by : (told : Option (List ℕ)) (old new bytes : List ℕ) → old ≡ [] → bytes ≡ new → Loads told old new → IsTold told bytes

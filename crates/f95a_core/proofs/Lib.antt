@@ -17,4 +17,3 @@ mod Noting
 mod Completed
 mod Lowering
 mod Built
-mod RoundTrip

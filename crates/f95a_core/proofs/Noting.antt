@@ -32,25 +32,25 @@ done_by came result before after (inl w) e = sym w.answer ∙ e
 done_by came result before after (inr (inl w)) e = let d = sym w.answer ∙ e in absurd cc
 done_by came result before after (inr (inr w)) e = let d = sym w.answer ∙ e in absurd cc
 
-pub builds_unbroken : (name : List ℕ) (files files' : Files) (out out' notes notes' : Stream) (came result : Status) →
-    Noted came result notes notes' → BuildComesTo name files files' out out' came → BuildsUnbroken (files.file name) result
-builds_unbroken name files files' out out' notes notes' status.Done result noted h bytes e unbroken = same_or_failure status.Done result notes notes' noted
-builds_unbroken name files files' out out' notes notes' (status.Refused phase line rule) result noted h bytes e unbroken =
+pub builds_unbroken : (name : List ℕ) (files files' : Files) (out out' notes notes' : Stream) (same : Type 0) (came result : Status) →
+    Noted came result notes notes' → BuildComesTo name files files' out out' same came → BuildsUnbroken (files.file name) result
+builds_unbroken name files files' out out' notes notes' same status.Done result noted h bytes e unbroken = same_or_failure status.Done result notes notes' noted
+builds_unbroken name files files' out out' notes notes' same (status.Refused phase line rule) result noted h bytes e unbroken =
     absurd (unbroken phase line.0 rule.0 (subst (λ (b : List ℕ). IsBroken b phase line.0 rule.0) (one_told (files.file name) h.1.bytes bytes h.1.is e) h.1.holds.broken))
-builds_unbroken name files files' out out' notes notes' status.ReadFault result noted h bytes e unbroken = inr (failure_stays status.ReadFault result notes notes' noted (inl refl))
-builds_unbroken name files files' out out' notes notes' status.WriteFault result noted h bytes e unbroken = inr (failure_stays status.WriteFault result notes notes' noted (inr (inl refl)))
-builds_unbroken name files files' out out' notes notes' status.Memory result noted h bytes e unbroken = inr (failure_stays status.Memory result notes notes' noted (inr (inr refl)))
-builds_unbroken name files files' out out' notes notes' other result noted h bytes e unbroken = absurd h
+builds_unbroken name files files' out out' notes notes' same status.ReadFault result noted h bytes e unbroken = inr (failure_stays status.ReadFault result notes notes' noted (inl refl))
+builds_unbroken name files files' out out' notes notes' same status.WriteFault result noted h bytes e unbroken = inr (failure_stays status.WriteFault result notes notes' noted (inr (inl refl)))
+builds_unbroken name files files' out out' notes notes' same status.Memory result noted h bytes e unbroken = inr (failure_stays status.Memory result notes notes' noted (inr (inr refl)))
+builds_unbroken name files files' out out' notes notes' same other result noted h bytes e unbroken = absurd h
 
 -- where the source was built, it reads as a unit, and so breaks nothing
-not_built : BreaksNothing → (name : List ℕ) (files files' : Files) (out out' : Stream) (came : Status) → came ≡ status.Done → BuildComesTo name files files' out out' came →
+not_built : BreaksNothing → (name : List ℕ) (files files' : Files) (out out' : Stream) (same : Type 0) (came : Status) → came ≡ status.Done → BuildComesTo name files files' out out' same came →
     (bytes : List ℕ) (phase line rule : ℕ) → files.file name ≡ Some bytes → IsBroken bytes phase line rule → ⊥
-not_built nothing name files files' out out' came same h bytes phase line rule e broken =
-    let built = subst (λ (s : Status). BuildComesTo name files files' out out' s) same h in
+not_built nothing name files files' out out' same came is h bytes phase line rule e broken =
+    let built = subst (λ (s : Status). BuildComesTo name files files' out out' same s) is h in
     nothing bytes built.1.holds.builds.compiles.unit phase line rule
     (subst (λ (b : List ℕ). Reads b built.1.holds.builds.compiles.unit) (one_told (files.file name) built.1.bytes bytes built.1.is e) built.1.holds.builds.compiles.reads) broken
 
-pub builds_no_other : BreaksNothing → (name : List ℕ) (files files' : Files) (out out' notes notes' : Stream) (came result : Status) →
-    Noted came result notes notes' → BuildComesTo name files files' out out' came → BuildsNoOther (files.file name) result
-builds_no_other nothing name files files' out out' notes notes' came result noted h bytes phase line rule e broken done =
-    not_built nothing name files files' out out' came (done_by came result notes notes' noted done) h bytes phase line rule e broken
+pub builds_no_other : BreaksNothing → (name : List ℕ) (files files' : Files) (out out' notes notes' : Stream) (same : Type 0) (came result : Status) →
+    Noted came result notes notes' → BuildComesTo name files files' out out' same came → BuildsNoOther (files.file name) result
+builds_no_other nothing name files files' out out' notes notes' same came result noted h bytes phase line rule e broken done =
+    not_built nothing name files files' out out' same came (done_by came result notes notes' noted done) h bytes phase line rule e broken

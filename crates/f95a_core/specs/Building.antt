@@ -7,7 +7,7 @@ use Rattle.loop_tree.specs.declared.tree.Function.{Function}
 use Rattle.loop_tree.specs.Program.{ReadsText}
 use Rattle.f95a_core.specs.declared.status.Status.{Status}
 use Rattle.f95a_core.specs.declared.status.Status.TheVariants as status
-use Rattle.f95a_core.specs.Outside.{Files, Stream, Told, NoLoadFailed, LoadFailed, Unwritten}
+use Rattle.f95a_core.specs.Outside.{Files, Stream, Told, NoLoadFailed, LoadFailed}
 use Rattle.loop_laws.specs.Follows.{Follows}
 use Rattle.f95a_core.specs.Source.{Unit, Reads, IsBroken, IsLeastBroken, IsUnbroken, source_run, turn_bound}
 use Rattle.f95a_core.specs.Answers.{IsFailure}
@@ -35,15 +35,16 @@ pub record WritesPrefix (before after : Stream) (bytes : List ℕ) : Type 0 wher
   pub builds : Builds bytes text
   pub appended : AppendsPrefix before.bytes after.bytes text
 
--- each status of `build NAME`, with its cause, and what was written; every other status is that of another command
-abbrev pub BuildComesTo : List ℕ → Files → Files → Stream → Stream → Status → Type 0
-BuildComesTo name files files' out out' status.Done = NoLoadFailed files files' × Told (files.file name) (WritesText out out')
-BuildComesTo name files files' out out' (status.Refused phase line rule) =
-    NoLoadFailed files files' × Told (files.file name) (λ bytes. IsLeastBroken bytes phase line.0 rule.0) × Unwritten out out'
-BuildComesTo name files files' out out' status.ReadFault = LoadFailed name files files' × Unwritten out out'
-BuildComesTo name files files' out out' status.WriteFault = NoLoadFailed files files' × Told (files.file name) (WritesPrefix out out') × Rose out.faults out'.faults
-BuildComesTo name files files' out out' status.Memory = NoLoadFailed files files' × (Unwritten out out' ⊎ Told (files.file name) (WritesPrefix out out'))
-BuildComesTo name files files' out out' other = ⊥
+-- each status of `build NAME`, with its cause, and what was written; every other status is that of another command. Where nothing
+-- was, it is said of the output itself
+abbrev pub BuildComesTo : List ℕ → Files → Files → Stream → Stream → Type 0 → Status → Type 0
+BuildComesTo name files files' out out' same_output status.Done = NoLoadFailed files files' × Told (files.file name) (WritesText out out')
+BuildComesTo name files files' out out' same_output (status.Refused phase line rule) =
+    NoLoadFailed files files' × Told (files.file name) (λ bytes. IsLeastBroken bytes phase line.0 rule.0) × same_output
+BuildComesTo name files files' out out' same_output status.ReadFault = LoadFailed name files files' × same_output
+BuildComesTo name files files' out out' same_output status.WriteFault = NoLoadFailed files files' × Told (files.file name) (WritesPrefix out out') × Rose out.faults out'.faults
+BuildComesTo name files files' out out' same_output status.Memory = NoLoadFailed files files' × (same_output ⊎ Told (files.file name) (WritesPrefix out out'))
+BuildComesTo name files files' out out' same_output other = ⊥
 
 -- a source that breaks no rule is built, unless a device or memory fails, and no other is
 abbrev pub BuildsUnbroken : Option (List ℕ) → Status → Type 0

@@ -1,6 +1,6 @@
 -- What `run` comes to, and what it leaves.
 use Rattle.std.specs.Prelude.{◌≡◌, ◌⊎◌, ℕ, ◌+◌, ◌≤◌, List, length, Option, Some}
-use Rattle.std.specs.Io.KnownBytes.{Appends, Keeps, IsAtEnd}
+use Rattle.std.specs.Io.KnownBytes.{Appends, IsAtEnd}
 use Rattle.io_edge.specs.Causes.{Rose}
 use Rattle.io_edge.specs.Known.{AppendsPrefix}
 use Rattle.a95_base.specs.Outcome.{Outcome, Finished, Going, Ended, Faulted}
@@ -13,7 +13,7 @@ use Rattle.loop_machine.specs.declared.end.End as end
 use Rattle.loop_machine.specs.declared.end.End.TheVariants as ends
 use Rattle.f95a_core.specs.declared.status.Status.{Status}
 use Rattle.f95a_core.specs.declared.status.Status.TheVariants as status
-use Rattle.f95a_core.specs.Outside.{Files, Stream, IsTold, Told, NoLoadFailed, LoadFailed, Unwritten}
+use Rattle.f95a_core.specs.Outside.{Files, Stream, IsTold, Told, NoLoadFailed, LoadFailed}
 use Rattle.f95a_core.specs.Answers.{IsFailure}
 use Rattle.f95a_core.specs.Intake.{input_limit, Takes, TakesAtMost, IsTooLong}
 
@@ -81,32 +81,33 @@ pub record InputFailed (file : Option (List ℕ)) (files files' : Files) (input 
   pub taken : TakesAtMost input_limit input.bytes input'.bytes
 
 -- want of memory, before anything was written
-pub record NoMemory (input input' out out' : Stream) : Type 0 where
-  pub nothing : Unwritten out out'
+pub record NoMemory (input input' : Stream) (same_output : Type 0) : Type 0 where
+  pub output : same_output
   pub taken : TakesAtMost (input_limit + 1) input.bytes input'.bytes
 
 -- Each status of `run NAME --turns N`, with its cause, and what was written and taken. The order is: the file is loaded, it is read as a
--- text, the input is taken, and the program runs. Every other status is that of another command.
-abbrev pub RunComesTo : List ℕ → ℕ → Files → Files → Stream → Stream → Stream → Stream → Status → Type 0
-RunComesTo name turns files files' input input' out out' status.Done =
+-- text, the input is taken, and the program runs. Until then the input, and the output, are as they were: it is said of the objects
+-- themselves. Every other status is that of another command.
+abbrev pub RunComesTo : List ℕ → ℕ → Files → Files → Stream → Stream → Stream → Stream → Type 0 → Type 0 → Status → Type 0
+RunComesTo name turns files files' input input' out out' same_input same_output status.Done =
     NoLoadFailed files files' × WritesRun (job (files.file name) input.bytes turns) (Finished (Comes Ended)) input' out out'
-RunComesTo name turns files files' input input' out out' (status.Fault kind line) =
+RunComesTo name turns files files' input input' out out' same_input same_output (status.Fault kind line) =
     NoLoadFailed files files' × WritesRun (job (files.file name) input.bytes turns) (Finished (Comes (Faulted kind line.0))) input' out out'
-RunComesTo name turns files files' input input' out out' (status.Stuck why) =
+RunComesTo name turns files files' input input' out out' same_input same_output (status.Stuck why) =
     NoLoadFailed files files' × WritesRun (job (files.file name) input.bytes turns) (Finished (Stuck why)) input' out out'
-RunComesTo name turns files files' input input' out out' status.TurnLimit =
+RunComesTo name turns files files' input input' out out' same_input same_output status.TurnLimit =
     NoLoadFailed files files' × WritesRun (job (files.file name) input.bytes turns) Going input' out out'
-RunComesTo name turns files files' input input' out out' (status.TextRefused line) =
-    NoLoadFailed files files' × Told (files.file name) (λ bytes. IsRefusedLine bytes line.0) × Keeps input.bytes input'.bytes × Unwritten out out'
-RunComesTo name turns files files' input input' out out' status.InputTooLong =
-    NoLoadFailed files files' × Told (files.file name) IsText × IsTooLong input.bytes × Takes (input_limit + 1) input.bytes input'.bytes × Unwritten out out'
-RunComesTo name turns files files' input input' out out' status.ReadFault =
-    Unwritten out out' × ((LoadFailed name files files' × Keeps input.bytes input'.bytes) ⊎ InputFailed (files.file name) files files' input input')
-RunComesTo name turns files files' input input' out out' status.WriteFault =
+RunComesTo name turns files files' input input' out out' same_input same_output (status.TextRefused line) =
+    NoLoadFailed files files' × Told (files.file name) (λ bytes. IsRefusedLine bytes line.0) × same_input × same_output
+RunComesTo name turns files files' input input' out out' same_input same_output status.InputTooLong =
+    NoLoadFailed files files' × Told (files.file name) IsText × IsTooLong input.bytes × Takes (input_limit + 1) input.bytes input'.bytes × same_output
+RunComesTo name turns files files' input input' out out' same_input same_output status.ReadFault =
+    same_output × ((LoadFailed name files files' × same_input) ⊎ InputFailed (files.file name) files files' input input')
+RunComesTo name turns files files' input input' out out' same_input same_output status.WriteFault =
     NoLoadFailed files files' × Rose out.faults out'.faults × WritesPrefixOfRun (job (files.file name) input.bytes turns) input' out out'
-RunComesTo name turns files files' input input' out out' status.Memory =
-    NoLoadFailed files files' × (NoMemory input input' out out' ⊎ WritesPrefixOfRun (job (files.file name) input.bytes turns) input' out out')
-RunComesTo name turns files files' input input' out out' other = ⊥
+RunComesTo name turns files files' input input' out out' same_input same_output status.Memory =
+    NoLoadFailed files files' × (NoMemory input input' same_output ⊎ WritesPrefixOfRun (job (files.file name) input.bytes turns) input' out out')
+RunComesTo name turns files files' input input' out out' same_input same_output other = ⊥
 
 -- a text is run on an input that isn't too long, unless a device or memory fails
 abbrev pub RunsText : Job → Stream → Stream → Status → Type 0

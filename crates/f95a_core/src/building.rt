@@ -15,7 +15,8 @@ pub fn build<H: Shelf, K: Sink>(alloc: Global, name: &str, shelf: &mut H, out: &
     ensures comes { BuildComesTo name.now
         (files (H.file shelf.old) (H.failed shelf.old) (H.faults shelf.old))
         (files (H.file shelf.new) (H.failed shelf.new) (H.faults shelf.new))
-        (stream (K.written out.old) (K.faults out.old)) (stream (K.written out.new) (K.faults out.new)) result }
+        (stream (K.written out.old) (K.faults out.old)) (stream (K.written out.new) (K.faults out.new))
+        (out.new ≡ out.old) result }
 {
     let mut source = Vec::new(alloc);
     match shelf.load(alloc, name, &mut source) {

@@ -100,14 +100,16 @@ pub fn f95a<H: Shelf, S: Source, K: Sink, N: Sink>(
         (λ came. BuildComesTo name
         (files (H.file shelf.old) (H.failed shelf.old) (H.faults shelf.old))
         (files (H.file shelf.new) (H.failed shelf.new) (H.faults shelf.new))
-        (stream (K.written out.old) (K.faults out.old)) (stream (K.written out.new) (K.faults out.new)) came)) }
+        (stream (K.written out.old) (K.faults out.old)) (stream (K.written out.new) (K.faults out.new))
+        (out.new ≡ out.old) came)) }
     ensures run { OnRun (command_of (map string_bytes words.now)) (λ name turns. Answers result
         (stream (N.written notes.old) (N.faults notes.old)) (stream (N.written notes.new) (N.faults notes.new))
         (λ came. RunComesTo name turns
         (files (H.file shelf.old) (H.failed shelf.old) (H.faults shelf.old))
         (files (H.file shelf.new) (H.failed shelf.new) (H.faults shelf.new))
         (stream (S.left input.old) (S.faults input.old)) (stream (S.left input.new) (S.faults input.new))
-        (stream (K.written out.old) (K.faults out.old)) (stream (K.written out.new) (K.faults out.new)) came)) }
+        (stream (K.written out.old) (K.faults out.old)) (stream (K.written out.new) (K.faults out.new))
+        (input.new ≡ input.old) (out.new ≡ out.old) came)) }
     // Only `run` takes input.
     ensures input { UnlessRun (command_of (map string_bytes words.now)) (input.new ≡ input.old) }
     // A source is built exactly where it breaks no rule, and a text is run to what its program comes to, unless a device or

@@ -24,7 +24,8 @@ pub fn run<H: Shelf, S: Source, K: Sink>(
         (files (H.file shelf.old) (H.failed shelf.old) (H.faults shelf.old))
         (files (H.file shelf.new) (H.failed shelf.new) (H.faults shelf.new))
         (stream (S.left input.old) (S.faults input.old)) (stream (S.left input.new) (S.faults input.new))
-        (stream (K.written out.old) (K.faults out.old)) (stream (K.written out.new) (K.faults out.new)) result }
+        (stream (K.written out.old) (K.faults out.old)) (stream (K.written out.new) (K.faults out.new))
+        (input.new ≡ input.old) (out.new ≡ out.old) result }
 {
     let mut text = Vec::new(alloc);
     match shelf.load(alloc, name, &mut text) {

@@ -1,4 +1,4 @@
-use Rattle.std.proofs.Common.{ap, sym, subst}
+use Rattle.std.proofs.Common.{◌≡◌, ap, sym, subst}
 use Rattle.loop_machine.specs.Running as machine
 use Rattle.f95a_core.specs.declared.status.Status.{Status}
 use Rattle.f95a_core.specs.Outside.{files, stream}
@@ -18,7 +18,7 @@ returns-in-Ok-new g c =
     let came = c.run.ensures.runs (ap (λ (m : machine.Running). m.ended) c.in-Ok-new.ensures) in
     let there = subst (λ (m : machine.Running). machine.RunsTo m.functions m.state c.args.turns c.run.result c.run.new.self.state out.bytes written.bytes) c.in-Ok-new.ensures came in
     record {
-      comes = subst (λ (s : Status). RunComesTo name c.args.turns before after input taken out written s) (sym c.status_of.ensures)
+      comes = subst (λ (s : Status). RunComesTo name c.args.turns before after input taken out written (c.take_all.new.input ≡ c.args.input.now) (c.run.new.sink ≡ c.args.out.now) s) (sym c.status_of.ensures)
           (executed name c.args.turns before after input taken out written c.in-Ok-read.program c.in-Ok-take_all.bytes.items
           (record {
             loaded = record { failed = c.in-Ok.ensures.ok.1; faults = c.in-Ok.ensures.ok.0 };
@@ -27,5 +27,5 @@ returns-in-Ok-new g c =
             reads = c.in-Ok-read.ensures.found;
             taken = c.in-Ok-take_all.ensures.taken;
           })
-          c.run.result c.run.new.self.state there (c.run.ensures.counted (ap (λ (m : machine.Running). m.ended) c.in-Ok-new.ensures)));
+          (c.take_all.new.input ≡ c.args.input.now) (c.run.new.sink ≡ c.args.out.now) c.run.result c.run.new.self.state there (c.run.ensures.counted (ap (λ (m : machine.Running). m.ended) c.in-Ok-new.ensures)));
     }
