@@ -18,15 +18,19 @@ use Rattle.array_meaning.specs.Frames.{Avoids, AvoidsArguments, AvoidsSubject, A
 use Rattle.array_meaning.proofs.Wholeness.{Gives, gives_pure, gives_then, gives_next, gives_any}
 
 -- the section that a designator names is one of its own variable
-placed_own : (line n : ℕ) (v : Variable) (a : Array) (picked : List Picked) (part : Option (ℤ × ℤ)) → Gives (λ s. s.variable ≡ n) (placed line n v a picked part)
-placed_own line n v a picked part = gives_next (λ s. s.variable ≡ n) _ (gives_next (λ s. s.variable ≡ n) _ (gives_next (λ s. s.variable ≡ n) _
+placed_own : (line n : ℕ) (v : Variable) (a : Array) (picked : List Picked) (part : Option (ℤ × ℤ)) → Gives
+    (λ s. s.variable ≡ n) (placed line n v a picked part)
+placed_own line n v a picked part = gives_next (λ s. s.variable ≡ n) _
+    (gives_next (λ s. s.variable ≡ n) _ (gives_next (λ s. s.variable ≡ n) _
     (gives_pure (λ s. s.variable ≡ n) _ refl)))
 
 designates_own : (unit : Program) (calls : Caller) (line : ℕ) (ix : List ℤ) (n : ℕ) (access : Access) (part : Part)
     → Gives (λ s. s.variable ≡ n) (designate unit calls line ix (at n access part))
 designates_own unit calls line ix n access part =
-    gives_then (λ v. Unit {0}) (λ s. s.variable ≡ n) (gives_any _) (λ v u. gives_then (λ a. Unit {0}) (λ s. s.variable ≡ n) (gives_any _)
-    (λ a u. gives_then (λ p. Unit {0}) (λ s. s.variable ≡ n) (gives_any _) (λ picked u. gives_then (λ b. Unit {0}) (λ s. s.variable ≡ n) (gives_any _)
+    gives_then (λ v. Unit {0}) (λ s. s.variable ≡ n) (gives_any _)
+    (λ v u. gives_then (λ a. Unit {0}) (λ s. s.variable ≡ n) (gives_any _)
+    (λ a u. gives_then (λ p. Unit {0}) (λ s. s.variable ≡ n) (gives_any _)
+    (λ picked u. gives_then (λ b. Unit {0}) (λ s. s.variable ≡ n) (gives_any _)
     (λ bounds u. placed_own line n v a picked bounds))))
 
 module _ (hidden : ℕ) (instead : Variable) where
@@ -35,7 +39,8 @@ module _ (hidden : ℕ) (instead : Variable) where
 
   -- ---- one step behind another
 
-  ignores_behind : {A B : Type 0} (f : A → Step B) (came : Result A Halt) (s : State) → ((a : A) → came ≡ Ok a → Ignores hidden instead (f a))
+  ignores_behind : {A B : Type 0} (f : A → Step B) (came : Result A Halt) (s : State) →
+      ((a : A) → came ≡ Ok a → Ignores hidden instead (f a))
       → behind f came (with_variable hidden instead s) ≡ moved (behind f came s)
   unfolding behind moved
   ignores_behind f (Ok a) s g = (g a refl).ignores s
@@ -45,17 +50,21 @@ module _ (hidden : ℕ) (instead : Variable) where
       → ((a : A) → Q a → Ignores hidden instead (f a)) → Ignores hidden instead (m >>= f)
   unfolding ◌>>=◌ moved
   ignores_knowing Q {m = m} {f = f} h q g = record {
-    ignores = λ s. ap (λ r. behind f r.came r.after) (h.ignores s) ∙ ignores_behind f (m s).came (m s).after (λ a e. g a (q.gives s a e));
+    ignores = λ s. ap (λ r. behind f r.came r.after) (h.ignores s) ∙ ignores_behind f (m s).came (m s).after
+        (λ a e. g a (q.gives s a e));
   }
 
-  ignores_then : {A B : Type 0} {m : Step A} {f : A → Step B} → Ignores hidden instead m → ((a : A) → Ignores hidden instead (f a)) → Ignores hidden instead (m >>= f)
+  ignores_then : {A B : Type 0} {m : Step A} {f : A → Step B} → Ignores hidden instead m →
+      ((a : A) → Ignores hidden instead (f a)) → Ignores hidden instead (m >>= f)
   ignores_then {m = m} h g = ignores_knowing (λ a. Unit {0}) h (gives_any m) (λ a u. g a)
 
-  ignores_next : {A B : Type 0} {m : Step A} {n : Step B} → Ignores hidden instead m → Ignores hidden instead n → Ignores hidden instead (m >> n)
+  ignores_next : {A B : Type 0} {m : Step A} {n : Step B} → Ignores hidden instead m → Ignores hidden instead n
+      → Ignores hidden instead (m >> n)
   unfolding ◌>>◌ ◌>>=◌
   ignores_next {n = n} h g = record { ignores = (ignores_then {f = λ a. n} h (λ a. g)).ignores }
 
-  ignores_choose : {A : Type 0} (b : Bool) {m n : Step A} → Ignores hidden instead m → Ignores hidden instead n → Ignores hidden instead (choose b m n)
+  ignores_choose : {A : Type 0} (b : Bool) {m n : Step A} → Ignores hidden instead m → Ignores hidden instead n
+      → Ignores hidden instead (choose b m n)
   unfolding choose
   ignores_choose true h g = record { ignores = h.ignores }
   ignores_choose false h g = record { ignores = g.ignores }
@@ -84,7 +93,8 @@ module _ (hidden : ℕ) (instead : Variable) where
   ignores_variable : (n : ℕ) → n ≢ hidden → Ignores hidden instead (variable n)
   unfolding variable pure
   ignores_variable n h = record {
-    ignores = λ s. ap (λ v. record { came = Ok v; after = with_variable hidden instead s }) (get_or-set_other s.variables hidden n instead no_variable h);
+    ignores = λ s. ap (λ v. record { came = Ok v; after = with_variable hidden instead s })
+        (get_or-set_other s.variables hidden n instead no_variable h);
   }
 
   turn_ignores : (k : ℕ) (s : State) → turn_from k (with_variable hidden instead s) ≡ moved (turn_from k s)
@@ -103,29 +113,35 @@ module _ (hidden : ℕ) (instead : Variable) where
       ignores_element : (t : Tree) (k : ℕ) → Ignores hidden instead (element calls line t k)
       ignores_element (Held v section) k = ignores_pure _
       ignores_element (Opposed op t) k = ignores_then (ignores_element t k) (λ x. ignores_pure _)
-      ignores_element (Two op t u) k = ignores_then (ignores_element t k) (λ x. ignores_then (ignores_element u k) (λ y. ignores_given _ _))
+      ignores_element (Two op t u) k = ignores_then (ignores_element t k)
+          (λ x. ignores_then (ignores_element u k) (λ y. ignores_given _ _))
       ignores_element (Each which ts) k = ignores_then (ignores_elements ts k) (λ xs. ignores_given _ _)
-      ignores_element (CallEach p x ts) k = ignores_then (ignores_elements ts k) (λ xs. ignores_then (same _ _ _) (λ v. ignores_pure _))
+      ignores_element (CallEach p x ts) k = ignores_then (ignores_elements ts k)
+          (λ xs. ignores_then (same _ _ _) (λ v. ignores_pure _))
 
       ignores_elements : (ts : Trees) (k : ℕ) → Ignores hidden instead (elements calls line ts k)
       ignores_elements no_tree k = ignores_pure _
-      ignores_elements (tree place t ts) k = ignores_then (ignores_element t k) (λ x. ignores_then (ignores_elements ts k) (λ xs. ignores_pure _))
+      ignores_elements (tree place t ts) k = ignores_then (ignores_element t k)
+          (λ x. ignores_then (ignores_elements ts k) (λ xs. ignores_pure _))
 
     ignores_all : (k n : ℕ) (t : Tree) → Ignores hidden instead (all_from calls line k n t)
     unfolding all_from
     ignores_all k zero t = ignores_pure _
-    ignores_all k (suc n) t = ignores_then (ignores_element t k) (λ x. ignores_then (ignores_all (suc k) n t) (λ xs. ignores_pure _))
+    ignores_all k (suc n) t = ignores_then (ignores_element t k)
+        (λ x. ignores_then (ignores_all (suc k) n t) (λ xs. ignores_pure _))
 
     ignores_masked : (k : ℕ) (mask : List Bool) (t : Tree) → Ignores hidden instead (masked_from calls line k mask t)
     unfolding masked_from
     ignores_masked k [] t = ignores_pure _
-    ignores_masked k (true ∷ mask) t = ignores_then (ignores_element t k) (λ x. ignores_then (ignores_masked (suc k) mask t) (λ xs. ignores_pure _))
+    ignores_masked k (true ∷ mask) t = ignores_then (ignores_element t k)
+        (λ x. ignores_then (ignores_masked (suc k) mask t) (λ xs. ignores_pure _))
     ignores_masked k (false ∷ mask) t = ignores_then (ignores_masked (suc k) mask t) (λ xs. ignores_pure _)
 
     ignores_pairs : (k n : ℕ) (t u : Tree) → Ignores hidden instead (pairs_from calls line k n t u)
     unfolding pairs_from
     ignores_pairs k zero t u = ignores_pure _
-    ignores_pairs k (suc n) t u = ignores_then (ignores_element t k) (λ x. ignores_then (ignores_element u k) (λ y. ignores_then (ignores_pairs (suc k) n t u) (λ more. ignores_pure _)))
+    ignores_pairs k (suc n) t u = ignores_then (ignores_element t k)
+        (λ x. ignores_then (ignores_element u k) (λ y. ignores_then (ignores_pairs (suc k) n t u) (λ more. ignores_pure _)))
 
     ignores_whole : (t : Tree) → Ignores hidden instead (whole calls line t)
     unfolding whole
@@ -137,8 +153,11 @@ module _ (hidden : ℕ) (instead : Variable) where
     ignores_passed : {m : Step Tree} → Ignores hidden instead m → Ignores hidden instead (passed calls line m)
     ignores_passed h = ignores_then h (λ t. ignores_then (ignores_whole t) (λ v. ignores_pure _))
 
-    ignores_paired : (place other : ℕ) {m n : Step Tree} → Ignores hidden instead m → Ignores hidden instead n → Ignores hidden instead (paired calls line place other m n)
-    ignores_paired place other h g = ignores_then h (λ t. ignores_then g (λ u. ignores_then (ignores_given _ _) (λ extents. ignores_then (ignores_pairs _ _ t u) (λ both. ignores_pure _))))
+    ignores_paired : (place other : ℕ) {m n : Step Tree} → Ignores hidden instead m → Ignores hidden instead n
+        → Ignores hidden instead (paired calls line place other m n)
+    ignores_paired place other h g = ignores_then h
+        (λ t. ignores_then g
+        (λ u. ignores_then (ignores_given _ _) (λ extents. ignores_then (ignores_pairs _ _ t u) (λ both. ignores_pure _))))
 
   -- ---- steps on integers, sections, rounds
 
@@ -148,13 +167,18 @@ module _ (hidden : ℕ) (instead : Variable) where
   ignores_read_section : (line : ℕ) (s : Section) → s.variable ≢ hidden → Ignores hidden instead (read_section line s)
   ignores_read_section line s h = ignores_then (ignores_variable _ h) (λ v. ignores_then (ignores_living _ _) (λ a. ignores_pure _))
 
-  ignores_placed : (line n : ℕ) (v : Variable) (a : Array) (picked : List Picked) (part : Option (ℤ × ℤ)) → Ignores hidden instead (placed line n v a picked part)
-  ignores_placed line n v a picked part = ignores_next (ignores_unless _ _ _) (ignores_next (ignores_unless _ _ _) (ignores_next (ignores_unless _ _ _) (ignores_pure _)))
+  ignores_placed : (line n : ℕ) (v : Variable) (a : Array) (picked : List Picked) (part : Option (ℤ × ℤ))
+      → Ignores hidden instead (placed line n v a picked part)
+  ignores_placed line n v a picked part = ignores_next (ignores_unless _ _ _)
+      (ignores_next (ignores_unless _ _ _) (ignores_next (ignores_unless _ _ _) (ignores_pure _)))
 
-  ignores_rounds : (n : ℕ) (i step : ℤ) {body : ℤ → List Scalar → Step (List Scalar)} → ((i : ℤ) (xs : List Scalar) → Ignores hidden instead (body i xs)) → (xs : List Scalar) → Ignores hidden instead (rounds n i step body xs)
+  ignores_rounds : (n : ℕ) (i step : ℤ) {body : ℤ → List Scalar → Step (List Scalar)} →
+      ((i : ℤ) (xs : List Scalar) → Ignores hidden instead (body i xs)) → (xs : List Scalar) → Ignores hidden instead
+      (rounds n i step body xs)
   unfolding rounds
   ignores_rounds zero i step h xs = ignores_pure _
-  ignores_rounds (suc n) i step h xs = ignores_next ignores_turn (ignores_then (h i xs) (λ ys. ignores_rounds n (i +ℤ step) step h ys))
+  ignores_rounds (suc n) i step h xs = ignores_next ignores_turn
+      (ignores_then (h i xs) (λ ys. ignores_rounds n (i +ℤ step) step h ys))
 
   ignores_gathered : (line : ℕ) (xs : List Scalar) (v : Value) → Ignores hidden instead (gathered line xs v)
   ignores_gathered line xs v = ignores_next (ignores_unless _ _ _) (ignores_pure _)
@@ -174,53 +198,69 @@ module _ (hidden : ℕ) (instead : Variable) where
       ignores_prepare ix (typed f (Named d)) h = ignores_named ix d h
       ignores_prepare ix (typed f (Brackets e)) h = ignores_then (ignores_prepare ix e h) (λ t. ignores_pure _)
       ignores_prepare ix (typed f (Unary op e)) h = ignores_then (ignores_prepare ix e h) (λ t. ignores_pure _)
-      ignores_prepare ix (typed f (Binary op e g)) h = ignores_then (ignores_prepare ix e h.0) (λ t. ignores_then (ignores_prepare ix g h.1) (λ u. ignores_pure _))
+      ignores_prepare ix (typed f (Binary op e g)) h = ignores_then (ignores_prepare ix e h.0)
+          (λ t. ignores_then (ignores_prepare ix g h.1) (λ u. ignores_pure _))
       ignores_prepare ix (typed f (Constructor items)) h = ignores_then (ignores_gather ix items [] h) (λ xs. ignores_pure _)
       ignores_prepare ix (typed f (Elementwise which es)) h = ignores_choose _
           (ignores_then (ignores_values ix es h) (λ vs. ignores_then (ignores_given _ _) (λ x. ignores_pure _)))
           (ignores_then (ignores_trees ix es h) (λ ts. ignores_pure _))
-      ignores_prepare ix (typed f (Trim e)) h = ignores_then (ignores_valued calls line same (ignores_prepare ix e h)) (λ v. ignores_pure _)
-      ignores_prepare ix (typed f (Asked which dim subject)) h = ignores_then (ignores_answer ix which dim subject h) (λ v. ignores_pure _)
-      ignores_prepare ix (typed f (Reduced which dim es)) h = ignores_then (ignores_reduction_values ix which es h) (λ vs. ignores_then (ignores_given _ _) (λ v. ignores_pure _))
-      ignores_prepare ix (typed f (Rearranged which dim es)) h = ignores_then (ignores_values ix es h) (λ vs. ignores_then (ignores_given _ _) (λ v. ignores_pure _))
+      ignores_prepare ix (typed f (Trim e)) h = ignores_then (ignores_valued calls line same (ignores_prepare ix e h))
+          (λ v. ignores_pure _)
+      ignores_prepare ix (typed f (Asked which dim subject)) h = ignores_then (ignores_answer ix which dim subject h)
+          (λ v. ignores_pure _)
+      ignores_prepare ix (typed f (Reduced which dim es)) h = ignores_then (ignores_reduction_values ix which es h)
+          (λ vs. ignores_then (ignores_given _ _) (λ v. ignores_pure _))
+      ignores_prepare ix (typed f (Rearranged which dim es)) h = ignores_then (ignores_values ix es h)
+          (λ vs. ignores_then (ignores_given _ _) (λ v. ignores_pure _))
       ignores_prepare ix (typed f (Called (call p es))) h = ignores_choose _
           (ignores_then (ignores_trees ix es h) (λ ts. ignores_pure _))
           (ignores_then (ignores_actuals ix es h) (λ vs. ignores_then (same _ _ _) (λ v. ignores_pure _)))
 
-      ignores_trees : (ix : List ℤ) (es : Arguments) → AvoidsArguments hidden es → Ignores hidden instead (trees unit calls line ix es)
+      ignores_trees : (ix : List ℤ) (es : Arguments) → AvoidsArguments hidden es → Ignores hidden instead
+          (trees unit calls line ix es)
       ignores_trees ix no_argument h = ignores_pure _
-      ignores_trees ix (argument place e es) h = ignores_then (ignores_prepare ix e h.0) (λ t. ignores_then (ignores_trees ix es h.1) (λ ts. ignores_pure _))
+      ignores_trees ix (argument place e es) h = ignores_then (ignores_prepare ix e h.0)
+          (λ t. ignores_then (ignores_trees ix es h.1) (λ ts. ignores_pure _))
 
-      ignores_values : (ix : List ℤ) (es : Arguments) → AvoidsArguments hidden es → Ignores hidden instead (values unit calls line ix es)
+      ignores_values : (ix : List ℤ) (es : Arguments) → AvoidsArguments hidden es → Ignores hidden instead
+          (values unit calls line ix es)
       ignores_values ix no_argument h = ignores_pure _
-      ignores_values ix (argument place e es) h = ignores_then (ignores_valued calls line same (ignores_prepare ix e h.0)) (λ v. ignores_then (ignores_values ix es h.1) (λ vs. ignores_pure _))
+      ignores_values ix (argument place e es) h = ignores_then (ignores_valued calls line same (ignores_prepare ix e h.0))
+          (λ v. ignores_then (ignores_values ix es h.1) (λ vs. ignores_pure _))
 
-      ignores_actuals : (ix : List ℤ) (es : Arguments) → AvoidsArguments hidden es → Ignores hidden instead (actuals unit calls line ix es)
+      ignores_actuals : (ix : List ℤ) (es : Arguments) → AvoidsArguments hidden es → Ignores hidden instead
+          (actuals unit calls line ix es)
       ignores_actuals ix no_argument h = ignores_pure _
-      ignores_actuals ix (argument place e es) h = ignores_then (ignores_passed calls line same (ignores_prepare ix e h.0)) (λ v. ignores_then (ignores_actuals ix es h.1) (λ vs. ignores_pure _))
+      ignores_actuals ix (argument place e es) h = ignores_then (ignores_passed calls line same (ignores_prepare ix e h.0))
+          (λ v. ignores_then (ignores_actuals ix es h.1) (λ vs. ignores_pure _))
 
       ignores_reduction_values : (ix : List ℤ) (which : Reduction) (es : Arguments) → AvoidsArguments hidden es
           → Ignores hidden instead (reduction_values unit calls line ix which es)
       ignores_reduction_values ix which no_argument h = ignores_pure _
-      ignores_reduction_values ix which (argument place e no_argument) h = ignores_then (ignores_valued calls line same (ignores_prepare ix e h.0)) (λ v. ignores_pure _)
+      ignores_reduction_values ix which (argument place e no_argument) h = ignores_then
+          (ignores_valued calls line same (ignores_prepare ix e h.0)) (λ v. ignores_pure _)
       ignores_reduction_values ix which (argument place e (argument other g more)) h = ignores_choose _
           (ignores_paired calls line same place other (ignores_prepare ix e h.0) (ignores_prepare ix g h.1.0))
-          (ignores_then (ignores_valued calls line same (ignores_prepare ix e h.0)) (λ v. ignores_then (ignores_valued calls line same (ignores_prepare ix g h.1.0)) (λ w. ignores_pure _)))
+          (ignores_then (ignores_valued calls line same (ignores_prepare ix e h.0))
+          (λ v. ignores_then (ignores_valued calls line same (ignores_prepare ix g h.1.0)) (λ w. ignores_pure _)))
 
       ignores_answer : (ix : List ℤ) (which : Inquiry) (dim : Option ℕ) (subject : Subject) → AvoidsSubject hidden subject
           → Ignores hidden instead (answer unit calls line ix which dim subject)
       ignores_answer ix which dim (Name n) h = ignores_then (ignores_variable n h) (λ v. ignores_asked line which dim v)
-      ignores_answer ix which dim (Of e) h = ignores_then (ignores_prepare ix e h) (λ t. ignores_then (ignores_given _ _) (λ extents. ignores_pure _))
+      ignores_answer ix which dim (Of e) h = ignores_then (ignores_prepare ix e h)
+          (λ t. ignores_then (ignores_given _ _) (λ extents. ignores_pure _))
 
       ignores_named : (ix : List ℤ) (d : Designator) → AvoidsDesignator hidden d
           → Ignores hidden instead (designate unit calls line ix d >>= (λ s. read_section line s >>= (λ v. pure (Held v (Some s)))))
       ignores_named ix (at n access part) h = ignores_knowing (λ s. s.variable ≡ n)
-          (ignores_then (ignores_variable n h.0) (λ v. ignores_then (ignores_living _ _) (λ a. ignores_then (ignores_pick ix _ access h.1)
+          (ignores_then (ignores_variable n h.0)
+          (λ v. ignores_then (ignores_living _ _) (λ a. ignores_then (ignores_pick ix _ access h.1)
           (λ picked. ignores_then (ignores_part_bounds ix _ part h.2) (λ bounds. ignores_placed line n v a picked bounds)))))
           (designates_own unit calls line ix n access part)
           (λ s e. ignores_then (ignores_read_section line s (rw e h.0)) (λ v. ignores_pure _))
 
-      ignores_pick : (ix : List ℤ) (bounds : List Dimension) (access : Access) → AvoidsAccess hidden access → Ignores hidden instead (pick unit calls line ix bounds access)
+      ignores_pick : (ix : List ℤ) (bounds : List Dimension) (access : Access) → AvoidsAccess hidden access
+          → Ignores hidden instead (pick unit calls line ix bounds access)
       ignores_pick ix bounds Whole h = ignores_pure _
       ignores_pick ix bounds (Subscripted ss) h = ignores_pick_each ix bounds ss h
 
@@ -228,33 +268,46 @@ module _ (hidden : ℕ) (instead : Variable) where
           → Ignores hidden instead (pick_each unit calls line ix bounds ss)
       ignores_pick_each ix bounds no_subscript h = ignores_pure _
       ignores_pick_each ix [] (subscript s ss) h = ignores_pure _
-      ignores_pick_each ix (d ∷ bounds) (subscript s ss) h = ignores_then (ignores_pick_one ix d s h.0) (λ picked. ignores_then (ignores_pick_each ix bounds ss h.1) (λ more. ignores_pure _))
+      ignores_pick_each ix (d ∷ bounds) (subscript s ss) h = ignores_then (ignores_pick_one ix d s h.0)
+          (λ picked. ignores_then (ignores_pick_each ix bounds ss h.1) (λ more. ignores_pure _))
 
-      ignores_pick_one : (ix : List ℤ) (d : Dimension) (s : Subscript) → AvoidsSubscript hidden s → Ignores hidden instead (pick_one unit calls line ix d s)
-      ignores_pick_one ix d (One e) h = ignores_then (ignores_number (ignores_valued calls line same (ignores_prepare ix e h))) (λ i. ignores_pure _)
-      ignores_pick_one ix d (Vector e) h = ignores_then (ignores_valued calls line same (ignores_prepare ix e h)) (λ v. ignores_pure _)
-      ignores_pick_one ix d (Spans first last stride) h = ignores_then (ignores_bound_or ix _ first h.0) (λ f. ignores_then (ignores_bound_or ix _ last h.1)
+      ignores_pick_one : (ix : List ℤ) (d : Dimension) (s : Subscript) → AvoidsSubscript hidden s → Ignores hidden instead
+          (pick_one unit calls line ix d s)
+      ignores_pick_one ix d (One e) h = ignores_then
+          (ignores_number (ignores_valued calls line same (ignores_prepare ix e h))) (λ i. ignores_pure _)
+      ignores_pick_one ix d (Vector e) h = ignores_then (ignores_valued calls line same (ignores_prepare ix e h))
+          (λ v. ignores_pure _)
+      ignores_pick_one ix d (Spans first last stride) h = ignores_then (ignores_bound_or ix _ first h.0)
+          (λ f. ignores_then (ignores_bound_or ix _ last h.1)
           (λ l. ignores_then (ignores_bound_or ix _ stride h.2) (λ s. ignores_pure _)))
 
-      ignores_bound_or : (ix : List ℤ) (absent : ℤ) (b : Bound) → AvoidsBound hidden b → Ignores hidden instead (bound_or unit calls line ix absent b)
+      ignores_bound_or : (ix : List ℤ) (absent : ℤ) (b : Bound) → AvoidsBound hidden b → Ignores hidden instead
+          (bound_or unit calls line ix absent b)
       ignores_bound_or ix absent Absent h = ignores_pure _
       ignores_bound_or ix absent (Given e) h = ignores_number (ignores_valued calls line same (ignores_prepare ix e h))
 
-      ignores_part_bounds : (ix : List ℤ) (len : ℕ) (part : Part) → AvoidsPart hidden part → Ignores hidden instead (part_bounds unit calls line ix len part)
+      ignores_part_bounds : (ix : List ℤ) (len : ℕ) (part : Part) → AvoidsPart hidden part → Ignores hidden instead
+          (part_bounds unit calls line ix len part)
       ignores_part_bounds ix len AllOf h = ignores_pure _
-      ignores_part_bounds ix len (BytesOf first last) h = ignores_then (ignores_bound_or ix _ first h.0) (λ f. ignores_then (ignores_bound_or ix _ last h.1) (λ l. ignores_pure _))
+      ignores_part_bounds ix len (BytesOf first last) h = ignores_then (ignores_bound_or ix _ first h.0)
+          (λ f. ignores_then (ignores_bound_or ix _ last h.1) (λ l. ignores_pure _))
 
-      ignores_gather : (ix : List ℤ) (items : Items) (xs : List Scalar) → AvoidsItems hidden items → Ignores hidden instead (gather unit calls line ix items xs)
+      ignores_gather : (ix : List ℤ) (items : Items) (xs : List Scalar) → AvoidsItems hidden items → Ignores hidden instead
+          (gather unit calls line ix items xs)
       ignores_gather ix no_item xs h = ignores_pure _
       ignores_gather ix (value e more) xs h = ignores_then (ignores_valued calls line same (ignores_prepare ix e h.0))
           (λ v. ignores_then (ignores_gathered line xs v) (λ ys. ignores_gather ix more ys h.1))
-      ignores_gather ix (loop body first last step more) xs h = ignores_then (ignores_number (ignores_valued calls line same (ignores_prepare ix first h.1)))
-          (λ f. ignores_then (ignores_number (ignores_valued calls line same (ignores_prepare ix last h.2))) (λ l. ignores_then (ignores_bound_or ix _ step h.3)
-          (λ s. ignores_next (ignores_unless _ _ _) (ignores_then (ignores_rounds _ f s (λ i zs. ignores_gather (ix ++ i ∷ []) body zs h.0) xs)
+      ignores_gather ix (loop body first last step more) xs h = ignores_then
+          (ignores_number (ignores_valued calls line same (ignores_prepare ix first h.1)))
+          (λ f. ignores_then (ignores_number (ignores_valued calls line same (ignores_prepare ix last h.2)))
+          (λ l. ignores_then (ignores_bound_or ix _ step h.3)
+          (λ s. ignores_next (ignores_unless _ _ _)
+          (ignores_then (ignores_rounds _ f s (λ i zs. ignores_gather (ix ++ i ∷ []) body zs h.0) xs)
           (λ ys. ignores_gather ix more ys h.4)))))
 
 pub values_ignore_others : ValuesIgnoreOthers
-values_ignore_others unit calls line k v same ix e h = ignores_valued k v calls line same (ignores_prepare k v unit calls line same ix e h)
+values_ignore_others unit calls line k v same ix e h = ignores_valued k v calls line same
+    (ignores_prepare k v unit calls line same ix e h)
 
 -- ---- stores
 

@@ -5,3 +5,5 @@ pub mod TurnsOfStatements
 pub mod Wholeness
 pub mod ExamplesRows
 pub mod Ignored
+pub mod Kept
+pub mod PureCalls

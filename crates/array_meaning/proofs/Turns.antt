@@ -43,12 +43,14 @@ pub record Grows {A : Type 0} (m m' : Step A) : Type 0 where
 abbrev pub Steady : {A : Type 0} → Step A → Type 0
 Steady m = Grows m m
 
-steady_by : {A : Type 0} {m : Step A} → ((s : State) → Same (m s) (m (more s))) → ((s : State) → IsPrefix s.written (m s).after.written) → Steady m
+steady_by : {A : Type 0} {m : Step A} → ((s : State) → Same (m s) (m (more s))) →
+    ((s : State) → IsPrefix s.written (m s).after.written) → Steady m
 steady_by h t = record { grows = h; first = record { tells = t }; second = record { tells = t } }
 
 -- ---- one step behind another
 
-tells_behind : {A B : Type 0} (f : A → Step B) → ((a : A) → Tells (f a)) → (came : Result A Halt) (s : State) → IsPrefix s.written (behind f came s).after.written
+tells_behind : {A B : Type 0} (f : A → Step B) → ((a : A) → Tells (f a)) → (came : Result A Halt) (s : State)
+    → IsPrefix s.written (behind f came s).after.written
 unfolding behind
 tells_behind f t (Ok a) s = (t a).tells s
 tells_behind f t (Err halt) s = prefix_refl s.written
@@ -57,7 +59,8 @@ pub tells_then : {A B : Type 0} {m : Step A} {f : A → Step B} → Tells m → 
 unfolding ◌>>=◌
 tells_then {m = m} {f = f} h t = record { tells = λ s. prefix_trans (h.tells s) (tells_behind f t (m s).came (m s).after) }
 
-grows_behind : {A B : Type 0} (f f' : A → Step B) → ((a : A) → Grows (f a) (f' a)) → (came : Result A Halt) (s : State) (came' : Result A Halt) (s' : State)
+grows_behind : {A B : Type 0} (f f' : A → Step B) → ((a : A) → Grows (f a) (f' a)) → (came : Result A Halt) (s : State)
+    (came' : Result A Halt) (s' : State)
     → SameBy came s came' s' → Same (behind f came s) (behind f' came' s')
 unfolding behind
 grows_behind f f' g (Ok a) s came' s' h = rw (h.0, h.1) ((g a).grows s)
@@ -65,7 +68,8 @@ grows_behind f f' g (Err Waits) s came' s' h = prefix_trans h (tells_behind f' (
 grows_behind f f' g (Err Stopped) s came' s' h = rw (h.0, h.1) (refl, refl)
 grows_behind f f' g (Err (Faults kind line)) s came' s' h = rw (h.0, h.1) (refl, refl)
 
-pub grows_then : {A B : Type 0} {m m' : Step A} {f f' : A → Step B} → Grows m m' → ((a : A) → Grows (f a) (f' a)) → Grows (m >>= f) (m' >>= f')
+pub grows_then : {A B : Type 0} {m m' : Step A} {f f' : A → Step B} → Grows m m' → ((a : A) → Grows (f a) (f' a)) → Grows
+    (m >>= f) (m' >>= f')
 unfolding ◌>>=◌
 grows_then {m = m} {m' = m'} {f = f} {f' = f'} h g = record {
   grows = λ s. grows_behind f f' g (m s).came (m s).after (m' (more s)).came (m' (more s)).after (h.grows s);
@@ -170,21 +174,25 @@ steady_turns_left h = steady_by (λ s. (h s.left).grows s) (λ s. (h s.left).fir
 
 -- ---- a callee's step on variables of its own
 
-own_same : (callers : List Variable) (came : Result (Unit {0}) Halt) (s : State) (came' : Result (Unit {0}) Halt) (s' : State) → SameBy came s came' s'
+own_same : (callers : List Variable) (came : Result (Unit {0}) Halt) (s : State) (came' : Result (Unit {0}) Halt)
+    (s' : State) → SameBy came s came' s'
     → Same (back_to callers (record { came = came; after = s })) (back_to callers (record { came = came'; after = s' }))
 own_same callers (Ok done) s came' s' h = rw (h.0, h.1) (refl, refl)
 own_same callers (Err Waits) s came' s' h = own_waits callers came' s s' h
   where
-    own_waits : (callers : List Variable) (came' : Result (Unit {0}) Halt) (s s' : State) → IsPrefix s.written s'.written → IsPrefix s.written s'.written
+    own_waits : (callers : List Variable) (came' : Result (Unit {0}) Halt) (s s' : State) → IsPrefix s.written s'.written
+        → IsPrefix s.written s'.written
     own_waits callers came' s s' h = h
 own_same callers (Err Stopped) s came' s' h = rw (h.0, h.1) (refl, refl)
 own_same callers (Err (Faults kind line)) s came' s' h = rw (h.0, h.1) (refl, refl)
 
-pub grows_inside : (own : List Variable) {body body' : Step (Unit {0})} → Grows body body' → Grows (inside own body) (inside own body')
+pub grows_inside : (own : List Variable) {body body' : Step (Unit {0})} → Grows body body' → Grows (inside own body)
+    (inside own body')
 unfolding inside
 grows_inside own {body = body} {body' = body'} h = record {
   grows = λ s. own_same s.variables (body (record s { variables = own })).came (body (record s { variables = own })).after
-      (body' (more (record s { variables = own }))).came (body' (more (record s { variables = own }))).after (h.grows (record s { variables = own }));
+      (body' (more (record s { variables = own }))).came (body' (more (record s { variables = own }))).after
+      (h.grows (record s { variables = own }));
   first = record { tells = λ s. h.first.tells (record s { variables = own }) };
   second = record { tells = λ s. h.second.tells (record s { variables = own }) };
 }

@@ -30,13 +30,15 @@ pub gives_pure : {A : Type 0} (P : A → Type 0) (a : A) → P a → Gives P (pu
 unfolding pure
 gives_pure P a h = record { gives = λ s b e. subst P (ok_same {E = Halt} a b e) h }
 
-gives_behind : {A B : Type 0} (Q : A → Type 0) (P : B → Type 0) (f : A → Step B) (came : Result A Halt) (s : State) → ((a : A) → came ≡ Ok a → Q a)
+gives_behind : {A B : Type 0} (Q : A → Type 0) (P : B → Type 0) (f : A → Step B) (came : Result A Halt) (s : State) →
+    ((a : A) → came ≡ Ok a → Q a)
     → ((a : A) → Q a → Gives P (f a)) → (b : B) → (behind f came s).came ≡ Ok b → P b
 unfolding behind
 gives_behind Q P f (Ok a) s q g b e = (g a (q a refl)).gives s b e
 gives_behind Q P f (Err halt) s q g b e = cc
 
-pub gives_then : {A B : Type 0} (Q : A → Type 0) (P : B → Type 0) {m : Step A} {f : A → Step B} → Gives Q m → ((a : A) → Q a → Gives P (f a)) → Gives P (m >>= f)
+pub gives_then : {A B : Type 0} (Q : A → Type 0) (P : B → Type 0) {m : Step A} {f : A → Step B} → Gives Q m →
+    ((a : A) → Q a → Gives P (f a)) → Gives P (m >>= f)
 unfolding ◌>>=◌
 gives_then Q P {m = m} {f = f} h g = record { gives = λ s b e. gives_behind Q P f (m s).came (m s).after (h.gives s) g b e }
 
@@ -52,7 +54,8 @@ module _ (calls : Caller) (line : ℕ) where
   unfolding all_from
   all_length k zero t = gives_pure (λ xs. length xs ≡ zero) [] refl
   all_length k (suc n) t = gives_then (λ x. Unit {0}) (λ xs. length xs ≡ suc n) (gives_any (element calls line t k))
-      (λ x u. gives_then (λ xs. length xs ≡ n) (λ xs. length xs ≡ suc n) (all_length (suc k) n t) (λ xs h. gives_pure (λ ys. length ys ≡ suc n) (x ∷ xs) (ap suc h)))
+      (λ x u. gives_then (λ xs. length xs ≡ n) (λ xs. length xs ≡ suc n) (all_length (suc k) n t)
+      (λ xs h. gives_pure (λ ys. length ys ≡ suc n) (x ∷ xs) (ap suc h)))
 
   IsFull : Value → Type 0
   IsFull v = length v.elements ≡ size_of v.extents
@@ -60,20 +63,26 @@ module _ (calls : Caller) (line : ℕ) where
   whole_full : (t : Tree) → Gives IsFull (whole calls line t)
   unfolding whole IsFull
   whole_full t = gives_then (λ extents. Unit {0}) IsFull (gives_any _)
-      (λ extents u. gives_then (λ xs. length xs ≡ size_of extents) IsFull (all_length 0 (size_of extents) t) (λ xs h. gives_pure IsFull _ h))
+      (λ extents u. gives_then (λ xs. length xs ≡ size_of extents) IsFull (all_length 0 (size_of extents) t)
+      (λ xs h. gives_pure IsFull _ h))
 
 pub values_full : ValuesAreFull
 unfolding IsFull
-values_full unit calls line ix e = (gives_then (λ t. Unit {0}) (IsFull calls line) (gives_any (prepare unit calls line ix e)) (λ t u. whole_full calls line t)).gives
+values_full unit calls line ix e =
+    (gives_then (λ t. Unit {0}) (IsFull calls line) (gives_any (prepare unit calls line ix e))
+    (λ t u. whole_full calls line t)).gives
 
 -- ---- shapes
 
-both_by : (b : Bool) (first second both : List ℕ) → is_shape first second ≡ b → (if b then Ok first else Err fault.Shape) ≡ Ok both → (first ≡ both) × (second ≡ both)
-both_by true first second both e h = let f : first ≡ both = ok_same {E = FaultKind} first both h in (f, sym (same_text first second (sym e)) ∙ f)
+both_by : (b : Bool) (first second both : List ℕ) → is_shape first second ≡ b →
+    (if b then Ok first else Err fault.Shape) ≡ Ok both → (first ≡ both) × (second ≡ both)
+both_by true first second both e h = let f : first ≡ both = ok_same {E = FaultKind} first both h in
+    (f, sym (same_text first second (sym e)) ∙ f)
 both_by false first second both e h = cc
 
 pub one_shape : ConformingIsOneShape
 one_shape [] second both h = (inl refl, inr (ok_same {E = FaultKind} second both h))
 one_shape (n ∷ first) [] both h = (inr (ok_same {E = FaultKind} (n ∷ first) both h), inl refl)
 one_shape (n ∷ first) (m ∷ second) both h =
-    let p : ((n ∷ first) ≡ both) × ((m ∷ second) ≡ both) = both_by (is_shape (n ∷ first) (m ∷ second)) (n ∷ first) (m ∷ second) both refl h in (inr p.0, inr p.1)
+    let p : ((n ∷ first) ≡ both) × ((m ∷ second) ≡ both) = both_by (is_shape (n ∷ first) (m ∷ second)) (n ∷ first)
+    (m ∷ second) both refl h in (inr p.0, inr p.1)

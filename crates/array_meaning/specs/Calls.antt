@@ -61,7 +61,11 @@ abbrev pub start_of : Actuals → Role → DeclaredType → Bounds → Variable
 start_of actuals (role.Dummy place i) of bounds =
     record {
       blank = blank_like (passed_at actuals place).value.like;
-      held = Some (record { bounds = counted_from_one (passed_at actuals place).value.extents; elements = (passed_at actuals place).value.elements });
+      held = Some (record {
+        bounds = counted_from_one (passed_at actuals place).value.extents;
+        elements =
+            (passed_at actuals place).value.elements;
+      });
     }
 start_of actuals role.Own of Scalars = fresh (blank_of_type of) []
 start_of actuals role.Own of bounds = record { blank = blank_of_type of; held = None }

@@ -82,7 +82,8 @@ abbrev pub is_in : List Scalar → Scalar → Range → Bool
 is_in constants x (range.One n) = is_same x (slice_index_or constants n nothing)
 is_in constants x (range.From n) = is_at_least x (slice_index_or constants n nothing)
 is_in constants x (range.UpTo n) = is_at_most x (slice_index_or constants n nothing)
-is_in constants x (range.Between n m) = is_at_least x (slice_index_or constants n nothing) && is_at_most x (slice_index_or constants m nothing)
+is_in constants x (range.Between n m) = is_at_least x (slice_index_or constants n nothing) && is_at_most x
+    (slice_index_or constants m nothing)
 
 module _ (unit : Program) (calls : Caller) where
   -- ---- allocation

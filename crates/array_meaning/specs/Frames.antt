@@ -88,4 +88,5 @@ pub record LeavesAlone (n : ℕ) (before after : State) : Type 0 where
   pub left : after.left ≡ before.left
 
 abbrev pub StoresLeaveOthers : Type 0
-StoresLeaveOthers = (n : ℕ) (bytes : Bytes) (stores : List (ℕ × Scalar)) (s : State) → LeavesAlone n s (store_all n bytes stores s).after
+StoresLeaveOthers = (n : ℕ) (bytes : Bytes) (stores : List (ℕ × Scalar)) (s : State) → LeavesAlone n s
+    (store_all n bytes stores s).after

@@ -15,3 +15,4 @@ pub mod RunLaws
 pub mod Build
 pub mod Examples
 pub mod Frames
+pub mod Purity

@@ -10,7 +10,7 @@ use Rattle.a95_base.specs.Lists.{count_to}
 use Rattle.f95_unit.specs.declared.operation.Rearranging.{Rearranging}
 use Rattle.f95_unit.specs.declared.operation.Rearranging.TheVariants as rearranging
 use Rattle.array_meaning.specs.Values.{Value, nothing, integer_of, truth_of, blank_like, scalar_value, vector_value, size_of, element_of, only, places, number_of, at_place, by_place, entry, without, with_entry, joint, within_limit, argument_of, has_argument}
-use Rattle.array_meaning.specs.Reductions.{Arguments, absent, chosen}
+use Rattle.array_meaning.specs.Reductions.{Arguments, absent, first_argument, second_argument, chosen}
 
 -- an INTEGER argument that is a scalar
 abbrev pub number_at : ℕ → Arguments → ℤ
@@ -30,7 +30,8 @@ round i n = unsigned_abs (int_rem_euclid i (pos n))
 
 abbrev pub cyclically_shifted : Value → ℤ → ℕ → Value
 cyclically_shifted a shift dim =
-    by_place a.like a.extents (λ p. at_place a (with_entry dim (round (pos (entry dim p) +ℤ shift) (entry dim a.extents)) (without dim p)))
+    by_place a.like a.extents
+    (λ p. at_place a (with_entry dim (round (pos (entry dim p) +ℤ shift) (entry dim a.extents)) (without dim p)))
 
 -- along a dimension, element i is element i + shift where there is one, else the boundary
 abbrev pub element_or : Scalar → Value → ℕ → ℤ → List ℕ → Scalar
@@ -38,7 +39,8 @@ element_or boundary a dim i p =
     if int_le (pos 0) i && int_lt i (pos (entry dim a.extents)) then at_place a (with_entry dim (unsigned_abs i) p) else boundary
 
 abbrev pub shifted_off : Value → ℤ → Scalar → ℕ → Value
-shifted_off a shift boundary dim = by_place a.like a.extents (λ p. element_or boundary a dim (pos (entry dim p) +ℤ shift) (without dim p))
+shifted_off a shift boundary dim = by_place a.like a.extents
+    (λ p. element_or boundary a dim (pos (entry dim p) +ℤ shift) (without dim p))
 
 -- copies along a new dimension
 abbrev pub copies_along : Value → ℕ → ℕ → Value
@@ -53,14 +55,16 @@ at_least_none z = if int_lt z (pos 0) then 0 else unsigned_abs z
 -- the elements where the mask is true, then the last elements of VECTOR, so that there are as many as VECTOR has
 abbrev pub packed_into : Value → List Scalar → Value → Result Value FaultKind
 packed_into a xs vector =
-    if nat_lt (length vector.elements) (length xs) then Err fault.Argument else Ok (vector_value a.like (xs ++ drop (length xs) vector.elements))
+    if nat_lt (length vector.elements) (length xs) then Err fault.Argument else Ok
+    (vector_value a.like (xs ++ drop (length xs) vector.elements))
 
 abbrev pub conforming : Result (List ℕ) FaultKind → Result Value FaultKind → Result Value FaultKind
 conforming (Err kind) value = Err kind
 conforming (Ok extents) value = value
 
 abbrev pub packed_or_filled : Value → List Scalar → Arguments → Result Value FaultKind
-packed_or_filled a picked xs = if has_argument 2 xs then packed_into a picked (argument_of absent 2 xs) else Ok (vector_value a.like picked)
+packed_or_filled a picked xs = if has_argument 2 xs then packed_into a picked (argument_of absent 2 xs) else Ok
+    (vector_value a.like picked)
 
 abbrev pub packed : Value → Value → Arguments → Result Value FaultKind
 packed a mask xs = conforming (joint a.extents mask.extents) (packed_or_filled a (chosen a mask (places a.extents)) xs)
@@ -73,10 +77,16 @@ unpacked_at vector mask field k =
 abbrev pub unpacked_by : Value → List ℕ → List Bool → Value → Result Value FaultKind
 unpacked_by vector extents truths field =
     if nat_lt (length vector.elements) (length (filter (λ b. b) truths)) then Err fault.Argument
-    else Ok (record { extents = extents; like = vector.like; elements = map (unpacked_at vector truths field) (count_to (length truths)) })
+    else Ok (record {
+      extents = extents;
+      like = vector.like;
+      elements = map (unpacked_at vector truths field)
+          (count_to (length truths));
+    })
 
 abbrev pub unpacked : Value → Value → Value → Result Value FaultKind
-unpacked vector mask field = conforming (joint mask.extents field.extents) (unpacked_by vector mask.extents (map truth_of mask.elements) field)
+unpacked vector mask field = conforming (joint mask.extents field.extents)
+    (unpacked_by vector mask.extents (map truth_of mask.elements) field)
 
 -- ---- RESHAPE
 
@@ -119,13 +129,20 @@ no_elements = vector_value nothing []
 
 -- ---- all
 
+-- BOUNDARY, or what a variable starts with
+abbrev pub boundary_of : Arguments → Scalar
+boundary_of xs = only (argument_of (scalar_value (blank_like (first_argument xs).like)) 2 xs)
+
 abbrev pub rearrangement_of : Rearranging → Option ℕ → Arguments → Result Value FaultKind
-rearrangement_of rearranging.Transpose dim xs = Ok (transposed (argument_of absent 0 xs))
-rearrangement_of rearranging.Cshift dim xs = Ok (cyclically_shifted (argument_of absent 0 xs) (number_at 1 xs) (dim_or_one dim))
-rearrangement_of rearranging.Eoshift dim xs = Ok (shifted_off (argument_of absent 0 xs) (number_at 1 xs)
-    (only (argument_of (scalar_value (blank_like (argument_of absent 0 xs).like)) 2 xs)) (dim_or_one dim))
-rearrangement_of rearranging.Spread dim xs = within_limit (copies_along (argument_of absent 0 xs) (dim_or_one dim) (at_least_none (number_at 2 xs)))
-rearrangement_of rearranging.Pack dim xs = packed (argument_of absent 0 xs) (argument_of absent 1 xs) xs
-rearrangement_of rearranging.Unpack dim xs = unpacked (argument_of absent 0 xs) (argument_of absent 1 xs) (argument_of absent 2 xs)
-rearrangement_of rearranging.Reshape dim xs = reshape_checked (argument_of absent 0 xs) (integers_of (argument_of absent 1 xs))
-    (argument_of no_elements 2 xs) (order_or_own (length (argument_of absent 1 xs).elements) (has_argument 3 xs) (argument_of absent 3 xs))
+rearrangement_of rearranging.Transpose dim xs = Ok (transposed (first_argument xs))
+rearrangement_of rearranging.Cshift dim xs =
+    Ok (cyclically_shifted (first_argument xs) (number_at 1 xs) (dim_or_one dim))
+rearrangement_of rearranging.Eoshift dim xs =
+    Ok (shifted_off (first_argument xs) (number_at 1 xs) (boundary_of xs) (dim_or_one dim))
+rearrangement_of rearranging.Spread dim xs =
+    within_limit (copies_along (first_argument xs) (dim_or_one dim) (at_least_none (number_at 2 xs)))
+rearrangement_of rearranging.Pack dim xs = packed (first_argument xs) (second_argument xs) xs
+rearrangement_of rearranging.Unpack dim xs = unpacked (first_argument xs) (second_argument xs) (argument_of absent 2 xs)
+rearrangement_of rearranging.Reshape dim xs =
+    reshape_checked (first_argument xs) (integers_of (second_argument xs)) (argument_of no_elements 2 xs)
+    (order_or_own (length (second_argument xs).elements) (has_argument 3 xs) (argument_of absent 3 xs))

@@ -21,6 +21,12 @@ Arguments = List (ℕ × Value)
 abbrev pub absent : Value
 absent = scalar_value nothing
 
+abbrev pub first_argument : Arguments → Value
+first_argument xs = argument_of absent 0 xs
+
+abbrev pub second_argument : Arguments → Value
+second_argument xs = argument_of absent 1 xs
+
 -- a MASK that isn't given is true everywhere
 abbrev pub mask_of : ℕ → Arguments → Value
 mask_of place xs = argument_of (scalar_value (scalar.Log true)) place xs
@@ -37,7 +43,8 @@ line_of dim extents place = map (λ j. with_entry dim j place) (count_to (entry 
 
 abbrev pub reduced : Scalar → (List Scalar → Scalar) → Option ℕ → Value → Value → Result Value FaultKind
 reduced like f None a mask = Ok (scalar_value (f (chosen a mask (places a.extents))))
-reduced like f (Some dim) a mask = within_limit (by_place like (without dim a.extents) (λ p. f (chosen a mask (line_of dim a.extents p))))
+reduced like f (Some dim) a mask = within_limit
+    (by_place like (without dim a.extents) (λ p. f (chosen a mask (line_of dim a.extents p))))
 
 -- sums and products wrap; of no elements they are 0 and 1, the greatest is the least integer and the least the greatest
 abbrev pub folded : (ℤ → ℤ → ℤ) → ℤ → List Scalar → Scalar
@@ -84,7 +91,8 @@ rank v = length v.extents
 -- the element at a place is made of the row of the first and the column of the second that the place names; the last extent
 -- of the first is the first extent of the second
 abbrev pub product_at : Value → Value → ℕ → List ℕ → Scalar
-product_at a b n p = dot a.like (map (λ j. (at_place a (take (rank a - 1) p ++ j ∷ []), at_place b (j ∷ drop (rank a - 1) p))) (count_to n))
+product_at a b n p = dot a.like
+    (map (λ j. (at_place a (take (rank a - 1) p ++ j ∷ []), at_place b (j ∷ drop (rank a - 1) p))) (count_to n))
 
 abbrev pub matrix_product : Value → Value → Result Value FaultKind
 matrix_product a b =
@@ -95,18 +103,25 @@ matrix_product a b =
 -- ---- all
 
 abbrev pub reduction_of : Reduction → Option ℕ → Arguments → Result Value FaultKind
-reduction_of reduction.Sum dim xs = reduced (scalar.Int (pos 0)) (folded sum_of (pos 0)) dim (argument_of absent 0 xs) (mask_of 2 xs)
-reduction_of reduction.Product dim xs = reduced (scalar.Int (pos 0)) (folded product_of (pos 1)) dim (argument_of absent 0 xs) (mask_of 2 xs)
-reduction_of reduction.Maxval dim xs = reduced (scalar.Int (pos 0)) (folded greater_of least_integer) dim (argument_of absent 0 xs) (mask_of 2 xs)
-reduction_of reduction.Minval dim xs = reduced (scalar.Int (pos 0)) (folded lesser_of greatest_integer) dim (argument_of absent 0 xs) (mask_of 2 xs)
-reduction_of reduction.All dim xs = reduced (scalar.Log false) all_true dim (argument_of absent 0 xs) (scalar_value (scalar.Log true))
-reduction_of reduction.Any dim xs = reduced (scalar.Log false) any_true dim (argument_of absent 0 xs) (scalar_value (scalar.Log true))
-reduction_of reduction.Count dim xs = reduced (scalar.Int (pos 0)) how_many dim (argument_of absent 0 xs) (scalar_value (scalar.Log true))
-reduction_of reduction.Maxloc dim xs = located (λ x y. int_lt y x) (argument_of absent 0 xs) (mask_of 1 xs)
-reduction_of reduction.Minloc dim xs = located (λ x y. int_lt x y) (argument_of absent 0 xs) (mask_of 1 xs)
+reduction_of reduction.Sum dim xs =
+    reduced (scalar.Int (pos 0)) (folded sum_of (pos 0)) dim (first_argument xs) (mask_of 2 xs)
+reduction_of reduction.Product dim xs =
+    reduced (scalar.Int (pos 0)) (folded product_of (pos 1)) dim (first_argument xs) (mask_of 2 xs)
+reduction_of reduction.Maxval dim xs =
+    reduced (scalar.Int (pos 0)) (folded greater_of least_integer) dim (first_argument xs) (mask_of 2 xs)
+reduction_of reduction.Minval dim xs =
+    reduced (scalar.Int (pos 0)) (folded lesser_of greatest_integer) dim (first_argument xs) (mask_of 2 xs)
+reduction_of reduction.All dim xs =
+    reduced (scalar.Log false) all_true dim (first_argument xs) (scalar_value (scalar.Log true))
+reduction_of reduction.Any dim xs =
+    reduced (scalar.Log false) any_true dim (first_argument xs) (scalar_value (scalar.Log true))
+reduction_of reduction.Count dim xs =
+    reduced (scalar.Int (pos 0)) how_many dim (first_argument xs) (scalar_value (scalar.Log true))
+reduction_of reduction.Maxloc dim xs = located (λ x y. int_lt y x) (first_argument xs) (mask_of 1 xs)
+reduction_of reduction.Minloc dim xs = located (λ x y. int_lt x y) (first_argument xs) (mask_of 1 xs)
 reduction_of reduction.DotProduct dim xs =
-    Ok (scalar_value (dot (argument_of absent 0 xs).like (zip (argument_of absent 0 xs).elements (argument_of absent 1 xs).elements)))
-reduction_of reduction.Matmul dim xs = matrix_product (argument_of absent 0 xs) (argument_of absent 1 xs)
+    Ok (scalar_value (dot (first_argument xs).like (zip (first_argument xs).elements (second_argument xs).elements)))
+reduction_of reduction.Matmul dim xs = matrix_product (first_argument xs) (second_argument xs)
 
 -- ---- inquiry
 

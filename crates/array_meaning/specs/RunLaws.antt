@@ -17,7 +17,8 @@ abbrev pub Stays : Run Stop → Run Stop → Type 0
 Stays run longer = StaysBy run.outcome run longer
 
 abbrev pub MoreTurns : Type 0
-MoreTurns = (unit : Program) (input : List ℕ) (turns longer : ℕ) → turns ≤ longer → Stays (source_run unit input turns) (source_run unit input longer)
+MoreTurns = (unit : Program) (input : List ℕ) (turns longer : ℕ) → turns ≤ longer → Stays (source_run unit input turns)
+    (source_run unit input longer)
 
 -- an expression's value has as many elements as its extents say
 abbrev pub ValuesAreFull : Type 0

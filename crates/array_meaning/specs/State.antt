@@ -118,7 +118,8 @@ changed blank bytes old new = new
 
 -- elements after stores at numbered places, one after the other
 abbrev pub with_stored : Scalar → Bytes → List (ℕ × Scalar) → List Scalar → List Scalar
-with_stored blank bytes stores xs = fold (λ ys p. slice_set ys p.0 (changed blank bytes (slice_index_or ys p.0 blank) p.1)) xs stores
+with_stored blank bytes stores xs = fold
+    (λ ys p. slice_set ys p.0 (changed blank bytes (slice_index_or ys p.0 blank) p.1)) xs stores
 
 abbrev pub held_after : Scalar → Bytes → List (ℕ × Scalar) → Option Array → Option Array
 held_after blank bytes stores None = None
@@ -136,7 +137,11 @@ store_one n x = store_all n None ((0, x) ∷ [])
 
 -- an array with these bounds and the elements that a variable starts with
 abbrev pub fresh : Scalar → List Dimension → Variable
-fresh blank bounds = record { blank = blank; held = Some (record { bounds = bounds; elements = replicate (size_of (extents_of bounds)) blank }) }
+fresh blank bounds = record {
+  blank = blank;
+  held = Some
+      (record { bounds = bounds; elements = replicate (size_of (extents_of bounds)) blank });
+}
 
 -- ---- input and output
 

@@ -1,6 +1,7 @@
 //! Laws of the meaning, for the layers above: each is the contract of a function that does nothing.
 
 ghost use Rattle.array_meaning.specs.Frames.{StoresLeaveOthers, ValuesIgnoreOthers};
+ghost use Rattle.array_meaning.specs.Purity.{PureCallsAreStill, PureFunctionsTakeTurns};
 ghost use Rattle.array_meaning.specs.RunLaws.{MoreTurns, ValuesAreFull, ConformingIsOneShape};
 
 /// More turns don't change how a source ended, and with more turns nothing that was written changes. A run has one outcome,
@@ -29,4 +30,10 @@ pub fn values_ignore_others()
 /// A store changes its variable, and no other one, no input, no output and no turn.
 pub fn stores_leave_others()
     ensures { StoresLeaveOthers }
+{}
+
+/// A call of a procedure that is pure by its text reads no input and writes nothing; one of a function takes turns alone.
+pub fn pure_calls()
+    ensures still { PureCallsAreStill }
+    ensures functions { PureFunctionsTakeTurns }
 {}

@@ -39,7 +39,8 @@ abbrev pub AddArgument : Type 0
 AddArgument = plain.Arguments → plain.Arguments
 
 -- a layer of the tree whose parts are seen
-abbrev pub Seen : (Type 0 → Type 0 → Type 0 → Type 0 → Type 0 → Type 0 → Type 0 → Type 0 → Type 0 → Type 0 → Type 0 → Type 0) → Type 0
+abbrev pub Seen : (Type 0 → Type 0 → Type 0 → Type 0 → Type 0 → Type 0 → Type 0 → Type 0 → Type 0 → Type 0 → Type 0 → Type 0)
+    → Type 0
 Seen F = F plain.Access plain.Bound AddItem plain.Node plain.Part plain.Subject AddSubscript AddArgument plain.Call plain.Designator plain.Expr
 
 abbrev pub joined_items : List AddItem → plain.Items
@@ -203,8 +204,10 @@ stmt_at (Stmt-F.Deallocate line names) = plain.Deallocate (line_of line) names
 stmt_at (Stmt-F.Print line es) = plain.Print (line_of line) (map expr_of es)
 stmt_at (Stmt-F.Read line targets) = plain.Read (line_of line) (map target_of targets)
 stmt_at (Stmt-F.If branches otherwise) = plain.If (joined_branches branches) (joined_stmts otherwise)
-stmt_at (Stmt-F.Select line e cases otherwise) = plain.Select (line_of line) (expr_of e) (joined_cases cases) (joined_stmts otherwise)
-stmt_at (Stmt-F.Do line n first last step body) = plain.Do (line_of line) n (expr_of first) (expr_of last) (bound_of step) (joined_stmts body)
+stmt_at (Stmt-F.Select line e cases otherwise) = plain.Select (line_of line) (expr_of e) (joined_cases cases)
+    (joined_stmts otherwise)
+stmt_at (Stmt-F.Do line n first last step body) = plain.Do (line_of line) n (expr_of first) (expr_of last) (bound_of step)
+    (joined_stmts body)
 stmt_at (Stmt-F.While line e body) = plain.While (line_of line) (expr_of e) (joined_stmts body)
 stmt_at (Stmt-F.Forever line body) = plain.Forever (line_of line) (joined_stmts body)
 stmt_at (Stmt-F.Exit line out) = plain.Exit (line_of line) out

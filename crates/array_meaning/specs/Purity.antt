@@ -1,0 +1,185 @@
+-- What a pure procedure may do, by its text, and what a call of it changes.
+use Rattle.std.specs.Prelude.{◌≡◌, ℕ, Bool, true, false, ◌||◌, Option, Some, None, List}
+use Rattle.a95_base.specs.Lists.{Every}
+use Rattle.f95_unit.specs.Plain.{Expr, typed, Literal, Constant, Index, Named, Brackets, Unary, Binary, Constructor, Elementwise, Trim, Asked, Reduced, Rearranged, Called, Designator, at, Access, Whole, Subscripted, Subscripts, no_subscript, subscript, Subscript, One, Vector, Spans, Bound, Absent, Given, Part, AllOf, BytesOf, Items, no_item, value, loop, Arguments, no_argument, argument, Subject, Name, Of, call, Assign, Where, masked, MaskedBody, no_masked, assigning, narrowed, Others, no_other, elsewhere, Triplet, Forall, Span, Allocation, Stmt, Assigns, Masks, ForAll, Calls, Allocate, Deallocate, Print, Read, If, Select, Do, While, Forever, Exit, Cycle, Return, Stop, Stmts, no_stmt, stmt, Branches, no_branch, branch, Cases, no_case, case, Bounds, Scalars, Explicit, Assumed, Deferred, Entity, Procedure, Program}
+use Rattle.array_meaning.specs.State.{State, Step}
+use Rattle.array_meaning.specs.Trees.{Passed}
+use Rattle.array_meaning.specs.Expressions.{procedure_at}
+use Rattle.array_meaning.specs.Calls.{is_out, called}
+
+-- ---- each procedure that an expression calls has a property
+
+module _ (P : ℕ → Type 0) where
+  abbrev mutual
+    pub Refers : Expr → Type 0
+    Refers (typed f (Literal x)) = Unit {0}
+    Refers (typed f (Constant n)) = Unit {0}
+    Refers (typed f (Index i)) = Unit {0}
+    Refers (typed f (Named d)) = RefersDesignator d
+    Refers (typed f (Brackets e)) = Refers e
+    Refers (typed f (Unary op e)) = Refers e
+    Refers (typed f (Binary op e g)) = Refers e × Refers g
+    Refers (typed f (Constructor items)) = RefersItems items
+    Refers (typed f (Elementwise which es)) = RefersArguments es
+    Refers (typed f (Trim e)) = Refers e
+    Refers (typed f (Asked which dim subject)) = RefersSubject subject
+    Refers (typed f (Reduced which dim es)) = RefersArguments es
+    Refers (typed f (Rearranged which dim es)) = RefersArguments es
+    Refers (typed f (Called (call p es))) = P p × RefersArguments es
+
+    pub RefersArguments : Arguments → Type 0
+    RefersArguments no_argument = Unit {0}
+    RefersArguments (argument place e es) = Refers e × RefersArguments es
+
+    pub RefersSubject : Subject → Type 0
+    RefersSubject (Name n) = Unit {0}
+    RefersSubject (Of e) = Refers e
+
+    pub RefersDesignator : Designator → Type 0
+    RefersDesignator (at n access part) = RefersAccess access × RefersPart part
+
+    pub RefersAccess : Access → Type 0
+    RefersAccess Whole = Unit {0}
+    RefersAccess (Subscripted ss) = RefersSubscripts ss
+
+    pub RefersSubscripts : Subscripts → Type 0
+    RefersSubscripts no_subscript = Unit {0}
+    RefersSubscripts (subscript s ss) = RefersSubscript s × RefersSubscripts ss
+
+    pub RefersSubscript : Subscript → Type 0
+    RefersSubscript (One e) = Refers e
+    RefersSubscript (Vector e) = Refers e
+    RefersSubscript (Spans first last stride) = RefersBound first × RefersBound last × RefersBound stride
+
+    pub RefersBound : Bound → Type 0
+    RefersBound Absent = Unit {0}
+    RefersBound (Given e) = Refers e
+
+    pub RefersPart : Part → Type 0
+    RefersPart AllOf = Unit {0}
+    RefersPart (BytesOf first last) = RefersBound first × RefersBound last
+
+    pub RefersItems : Items → Type 0
+    RefersItems no_item = Unit {0}
+    RefersItems (value e more) = Refers e × RefersItems more
+    RefersItems (loop body first last step more) = RefersItems body × Refers first × Refers last × RefersBound step × RefersItems more
+
+  abbrev pub RefersMaybe : Option Expr → Type 0
+  RefersMaybe None = Unit {0}
+  RefersMaybe (Some e) = Refers e
+
+-- ---- the text of a pure procedure: no PRINT, no READ, no STOP, and calls of pure procedures alone
+
+-- PURE or ELEMENTAL
+abbrev pub is_pure : Procedure → Bool
+is_pure q = q.pure || q.elemental
+
+-- no dummy is modified, as in each function
+abbrev pub HasNoOut : Procedure → Type 0
+HasNoOut q = Every (λ (e : Entity). is_out e.role ≡ false) q.entities
+
+module _ (unit : Program) where
+  abbrev pub IsPure : ℕ → Type 0
+  IsPure p = is_pure (procedure_at unit p) ≡ true
+
+  abbrev pub IsPureFunction : ℕ → Type 0
+  IsPureFunction p = IsPure p × HasNoOut (procedure_at unit p)
+
+  abbrev pub Plain : Expr → Type 0
+  Plain e = Refers IsPureFunction e
+
+  abbrev pub PlainAssign : Assign → Type 0
+  PlainAssign a = Plain a.value × RefersDesignator IsPureFunction a.target.designator
+
+  abbrev mutual
+    pub PlainWhere : Where → Type 0
+    PlainWhere (masked line mask body others) = Plain mask × PlainMasked body × PlainOthers others
+
+    pub PlainMasked : MaskedBody → Type 0
+    PlainMasked no_masked = Unit {0}
+    PlainMasked (assigning a more) = PlainAssign a × PlainMasked more
+    PlainMasked (narrowed w more) = PlainWhere w × PlainMasked more
+
+    pub PlainOthers : Others → Type 0
+    PlainOthers no_other = Unit {0}
+    PlainOthers (elsewhere line mask body more) = RefersMaybe IsPureFunction mask × PlainMasked body × PlainOthers more
+
+  abbrev pub PlainTriplet : Triplet → Type 0
+  PlainTriplet t = Plain t.first × Plain t.last × RefersBound IsPureFunction t.stride
+
+  abbrev pub PlainForall : Forall → Type 0
+  PlainForall f = Every PlainTriplet f.triplets × RefersMaybe IsPureFunction f.mask × Every PlainAssign f.body
+
+  abbrev pub PlainSpan : Span → Type 0
+  PlainSpan s = RefersBound IsPureFunction s.lower × Plain s.upper
+
+  abbrev pub PlainAllocation : Allocation → Type 0
+  PlainAllocation a = Every PlainSpan a.spans
+
+  abbrev mutual
+    pub PlainStmt : Stmt → Type 0
+    PlainStmt (Assigns a) = PlainAssign a
+    PlainStmt (Masks w) = PlainWhere w
+    PlainStmt (ForAll f) = PlainForall f
+    PlainStmt (Calls line (call p es)) = IsPure p × RefersArguments IsPureFunction es
+    PlainStmt (Allocate line objects) = Every PlainAllocation objects
+    PlainStmt (Deallocate line names) = Unit {0}
+    PlainStmt (Print line es) = ⊥
+    PlainStmt (Read line targets) = ⊥
+    PlainStmt (If branches otherwise) = PlainBranches branches × PlainStmts otherwise
+    PlainStmt (Select line e cases otherwise) = Plain e × PlainCases cases × PlainStmts otherwise
+    PlainStmt (Do line n first last step body) = Plain first × Plain last × RefersBound IsPureFunction step × PlainStmts body
+    PlainStmt (While line e body) = Plain e × PlainStmts body
+    PlainStmt (Forever line body) = PlainStmts body
+    PlainStmt (Exit line out) = Unit {0}
+    PlainStmt (Cycle line out) = Unit {0}
+    PlainStmt (Return line) = Unit {0}
+    PlainStmt (Stop line) = ⊥
+
+    pub PlainStmts : Stmts → Type 0
+    PlainStmts no_stmt = Unit {0}
+    PlainStmts (stmt s more) = PlainStmt s × PlainStmts more
+
+    pub PlainBranches : Branches → Type 0
+    PlainBranches no_branch = Unit {0}
+    PlainBranches (branch line e body more) = Plain e × PlainStmts body × PlainBranches more
+
+    pub PlainCases : Cases → Type 0
+    PlainCases no_case = Unit {0}
+    PlainCases (case ranges body more) = PlainStmts body × PlainCases more
+
+  abbrev pub PlainBounds : Bounds → Type 0
+  PlainBounds Scalars = Unit {0}
+  PlainBounds (Explicit spans) = Every PlainSpan spans
+  PlainBounds (Assumed lowers) = Every (RefersBound IsPureFunction) lowers
+  PlainBounds (Deferred rank) = Unit {0}
+
+  abbrev pub PlainEntity : Entity → Type 0
+  PlainEntity e = PlainBounds e.bounds × RefersMaybe IsPureFunction e.initial
+
+  -- each procedure that says that it is pure has the text of one
+  abbrev pub KeepsPure : Type 0
+  KeepsPure = (p : ℕ) → IsPure p → Every PlainEntity (procedure_at unit p).entities × PlainStmts (procedure_at unit p).body
+
+-- ---- what it changes
+
+-- no input is read and nothing is written
+abbrev pub Still : State → State → Type 0
+Still before after = (after.input ≡ before.input) × (after.written ≡ before.written)
+
+-- turns alone are taken
+abbrev pub TurnsAlone : State → State → Type 0
+TurnsAlone before after = after ≡ record before { left = after.left }
+
+abbrev pub Changes : {A : Type 0} → (State → State → Type 0) → Step A → Type 0
+Changes R m = (s : State) → R s (m s).after
+
+-- a call of a pure procedure reads no input and writes nothing; one of a pure function takes turns alone
+abbrev pub PureCallsAreStill : Type 0
+PureCallsAreStill = (unit : Program) → KeepsPure unit → (depth p line : ℕ) (actuals : List (ℕ × Passed)) → IsPure unit p
+    → Changes Still (called unit depth p line actuals)
+
+abbrev pub PureFunctionsTakeTurns : Type 0
+PureFunctionsTakeTurns = (unit : Program) → KeepsPure unit → (depth p line : ℕ) (actuals : List (ℕ × Passed))
+    → IsPureFunction unit p
+    → Changes TurnsAlone (called unit depth p line actuals)
