@@ -1,5 +1,7 @@
-//! Tests of the machine that runs LoopC: texts, and what they do.
+//! Tests of the machine that runs LoopC.
 #![tactic(auto)]
 
 #[cfg(test)]
 mod loop_machines;
+#[cfg(test)]
+mod parts;

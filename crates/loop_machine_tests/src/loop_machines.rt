@@ -1,12 +1,13 @@
-//! What the machine makes of LoopC: each row of the grammar, each stuck state, runs in parts, and sinks that fail.
+//! What the machine makes of LoopC: each row of the grammar, calls, faults, each stuck state, and long loops.
 use a95_base::{FaultKind, Line};
 use io_edge::{MemorySink, Sink};
 use loop_machine::{End, Machine};
 use loop_text::{NoText, read};
+use loop_tree::StuckState;
 use std::alloc::{AllocError, Global};
 use std::test::Fail;
 
-const PLENTY: u128 = 1_000_000;
+pub const PLENTY: u128 = 1_000_000;
 
 /// The machine of a text, at its start.
 fn machine_of(alloc: Global, text: &[u8], input: &[u8]) -> Result<Machine, Fail> {
@@ -18,7 +19,7 @@ fn machine_of(alloc: Global, text: &[u8], input: &[u8]) -> Result<Machine, Fail>
 }
 
 /// The text of a program: the lines of the main function, and the functions behind it.
-fn text_of(alloc: Global, main: &str, others: &str) -> Result<Vec<u8>, AllocError> {
+pub fn text_of(alloc: Global, main: &str, others: &str) -> Result<Vec<u8>, AllocError> {
     let mut text = b"/* LoopC 1 */\nvoid f0() {\n".to_vec(alloc)?;
     text.extend_from_slice(main.as_bytes())?;
     text.extend_from_slice(b"}\n")?;
@@ -28,10 +29,10 @@ fn text_of(alloc: Global, main: &str, others: &str) -> Result<Vec<u8>, AllocErro
 
 /// A run with so many turns more, what it comes to, and what is written then in all.
 #[derive(Clone, Copy)]
-struct Part {
-    turns: u128,
-    end: End,
-    written: &'static [u8],
+pub struct Part {
+    pub turns: u128,
+    pub end: End,
+    pub written: &'static [u8],
 }
 
 fn is_as_told(machine: &mut Machine, sink: &mut MemorySink, part: Part) -> bool {
@@ -39,7 +40,7 @@ fn is_as_told(machine: &mut Machine, sink: &mut MemorySink, part: Part) -> bool 
 }
 
 /// Whether the parts of a program's run come out as told, over a sink of which some puts fail, and how many did.
-fn goes(
+pub fn goes(
     alloc: Global,
     text: &[u8],
     input: &[u8],
@@ -333,7 +334,7 @@ fn input_is_taken(rt: HostRuntime) -> Result<(), Fail> {
     Ok(())
 }
 
-const FUNCTIONS: &str =
+pub const FUNCTIONS: &str =
     "void f1(i0, s1, b2, c3) {\ni4 = f_depth();\nb2[0] = i0;\nc3[0] = s1;\nb5 = f_new(1);\nb2 = b5;\nf_put_int(i4);\nf_put_int(i9);\ni0 = 100;\n}\nvoid f2(i0) {\ni1 = i0 < 1;\nif (i1) {\nreturn;\n}\nf_put_int(i0);\ni2 = i0 - 1;\nf2(i2);\n}\nvoid f3() {\nf_at(9);\nf_fault(2);\n}\nvoid f4(b0) {\n}\nvoid f5() {\nwhile (1) {\nf_stop();\n}\n}\n";
 
 const CALLS: [(&str, End, &str); 2] = [
@@ -392,69 +393,86 @@ fn a_fault_has_the_line_of_its_call(rt: HostRuntime) -> Result<(), Fail> {
     Ok(())
 }
 
-const STUCK: [(&str, End, &str); 30] = [
-    ("b0 = f_new(2);\ni1 = b0[2];\n", End::Stuck { why: 1 }, ""),
-    ("b0 = f_new(2);\nb0[-1] = 0;\n", End::Stuck { why: 1 }, ""),
-    (
-        "c0 = f_temp_text(0);\ns1 = c0[0];\n",
-        End::Stuck { why: 1 },
-        "",
-    ),
-    ("i1 = b0[0];\n", End::Stuck { why: 2 }, ""),
-    ("c0[0] = \"\";\n", End::Stuck { why: 2 }, ""),
-    (
-        "b0 = f_new(2);\nf_free(b0);\nb0[0] = 1;\n",
-        End::Stuck { why: 2 },
-        "",
-    ),
+/// The lines of a main function, and the number of the stuck state that they come to.
+const STUCK: [(&str, u8); 30] = [
+    ("b0 = f_new(2);\ni1 = b0[2];\n", 1),
+    ("b0 = f_new(2);\nb0[-1] = 0;\n", 1),
+    ("c0 = f_temp_text(0);\ns1 = c0[0];\n", 1),
+    ("i1 = b0[0];\n", 2),
+    ("c0[0] = \"\";\n", 2),
+    ("b0 = f_new(2);\nf_free(b0);\nb0[0] = 1;\n", 2),
     (
         "b0 = f_new(2);\nb1 = b0;\nf_free(b0);\ni1 = f_size(b1);\n",
-        End::Stuck { why: 2 },
-        "",
+        2,
     ),
-    ("f_free(c0);\n", End::Stuck { why: 2 }, ""),
-    ("b0 = b1;\n", End::Stuck { why: 2 }, ""),
-    ("f4(b0);\n", End::Stuck { why: 2 }, ""),
-    ("i1 = 1 / 0;\n", End::Stuck { why: 3 }, ""),
-    ("i1 = 1 % i2;\n", End::Stuck { why: 3 }, ""),
-    ("f0();\n", End::Stuck { why: 4 }, ""),
-    ("f99();\n", End::Stuck { why: 4 }, ""),
-    ("f2();\n", End::Stuck { why: 4 }, ""),
-    ("f2(\"x\");\n", End::Stuck { why: 4 }, ""),
-    ("f2(1, 2);\n", End::Stuck { why: 4 }, ""),
-    ("b0 = f_new(-1);\n", End::Stuck { why: 5 }, ""),
-    ("b0 = f_temp(16777217);\n", End::Stuck { why: 5 }, ""),
-    ("c0 = f_new_text(1, 256);\n", End::Stuck { why: 5 }, ""),
-    (
-        "b0 = f_new(1);\nf_grow(b0, 16777216);\n",
-        End::Stuck { why: 5 },
-        "",
-    ),
-    (
-        "c0 = f_temp_text(1);\nf_grow(c0, -1);\n",
-        End::Stuck { why: 5 },
-        "",
-    ),
-    ("s1 = f_sub(\"abc\", 0, 1);\n", End::Stuck { why: 6 }, ""),
-    (
-        "s1 = f_over(\"abc\", 3, \"xy\");\n",
-        End::Stuck { why: 6 },
-        "",
-    ),
-    ("i1 = f_code(\"\");\n", End::Stuck { why: 6 }, ""),
-    ("s1 = f_chr(256);\n", End::Stuck { why: 7 }, ""),
-    ("i1 = f_take(0);\n", End::Stuck { why: 8 }, ""),
-    ("i1 = f_pow(2, -1);\n", End::Stuck { why: 9 }, ""),
+    ("f_free(c0);\n", 2),
+    ("b0 = b1;\n", 2),
+    ("f4(b0);\n", 2),
+    ("i1 = 1 / 0;\n", 3),
+    ("i1 = 1 % i2;\n", 3),
+    ("f0();\n", 4),
+    ("f99();\n", 4),
+    ("f2();\n", 4),
+    ("f2(\"x\");\n", 4),
+    ("f2(1, 2);\n", 4),
+    ("b0 = f_new(-1);\n", 5),
+    ("b0 = f_temp(16777217);\n", 5),
+    ("c0 = f_new_text(1, 256);\n", 5),
+    ("b0 = f_new(1);\nf_grow(b0, 16777216);\n", 5),
+    ("c0 = f_temp_text(1);\nf_grow(c0, -1);\n", 5),
+    ("s1 = f_sub(\"abc\", 0, 1);\n", 6),
+    ("s1 = f_over(\"abc\", 3, \"xy\");\n", 6),
+    ("i1 = f_code(\"\");\n", 6),
+    ("s1 = f_chr(256);\n", 7),
+    ("i1 = f_take(0);\n", 8),
+    ("i1 = f_pow(2, -1);\n", 9),
     // the least number where several hold
-    ("f2(b0, 1);\n", End::Stuck { why: 2 }, ""),
-    ("f99(b0);\n", End::Stuck { why: 2 }, ""),
+    ("f2(b0, 1);\n", 2),
+    ("f99(b0);\n", 2),
 ];
+
+/// The number of the stuck state that a main function comes to, before anything is written, or 0 where it comes to another
+/// end.
+fn stuck_number(alloc: Global, main: &str) -> Result<u8, Fail> {
+    let text = text_of(alloc, main, FUNCTIONS)?;
+    let mut machine = machine_of(alloc, text.as_slice(), b"x")?;
+    let mut sink = MemorySink::new(alloc, Vec::new(alloc), 2);
+    match machine.run(PLENTY, &mut sink) {
+        End::Stuck { why } if sink.written().is_empty() => Ok(why.number()),
+        _ => Ok(0),
+    }
+}
+
+/// Of main functions, the first that doesn't come to the stuck state of its number.
+fn first_not_stuck(
+    alloc: Global,
+    cases: &[(&'static str, u8)],
+) -> Result<Option<&'static str>, Fail> {
+    for (main, number) in cases {
+        if stuck_number(alloc, *main)? != *number {
+            return Ok(Some(*main));
+        }
+    }
+    Ok(None)
+}
 
 #[test]
 fn each_stuck_state_has_its_number(rt: HostRuntime) -> Result<(), Fail> {
-    assert_eq!(rt; first_wrong(rt.alloc(), &STUCK, FUNCTIONS, "x")?, None);
+    assert_eq!(rt; first_not_stuck(rt.alloc(), &STUCK)?, None);
     Ok(())
 }
+
+const OUTSIDE_BLOCK: End = End::Stuck {
+    why: StuckState::OutsideBlock,
+};
+
+const NO_BLOCK: End = End::Stuck {
+    why: StuckState::NoBlock,
+};
+
+const ZERO_DIVISOR: End = End::Stuck {
+    why: StuckState::ZeroDivisor,
+};
 
 /// Loops of many turns over integers and cells, among them some that stop within a turn, and some with other lines.
 /// What they come to was found by another reader of LoopC.
@@ -466,12 +484,12 @@ const SWEEPS: [(&str, End, &str); 16] = [
     ),
     (
         "b0 = f_new(20);\nfor (k1 = 0; k1 < 40; k1 = k1 + 1) {\nb0[k1] = 1;\n}\nf_put_int(i0);\nf_record();\n",
-        End::Stuck { why: 1 },
+        OUTSIDE_BLOCK,
         "",
     ),
     (
         "for (k1 = 0; k1 < 40; k1 = k1 + 1) {\ni1 = 20 - k1;\ni0 = 100 / i1;\n}\nf_put_int(i0);\nf_record();\n",
-        End::Stuck { why: 3 },
+        ZERO_DIVISOR,
         "",
     ),
     (
@@ -506,12 +524,12 @@ const SWEEPS: [(&str, End, &str); 16] = [
     ),
     (
         "for (k1 = 0; k1 < 20; k1 = k1 + 1) {\ni0 = b0[k1];\n}\nf_put_int(i0);\nf_record();\n",
-        End::Stuck { why: 2 },
+        NO_BLOCK,
         "",
     ),
     (
         "b0 = f_new(20);\nfor (k1 = 0; k1 < 20; k1 = k1 + 1) {\nb0[k1] = k1;\nf_free(b0);\n}\n",
-        End::Stuck { why: 2 },
+        NO_BLOCK,
         "",
     ),
     (
@@ -544,151 +562,5 @@ const SWEEPS: [(&str, End, &str); 16] = [
 #[test]
 fn loops_of_many_turns_are_obeyed(rt: HostRuntime) -> Result<(), Fail> {
     assert_eq!(rt; first_wrong(rt.alloc(), &SWEEPS, "", "")?, None);
-    Ok(())
-}
-
-const MANY: &str =
-    "for (k1 = 0; k1 < 40; k1 = k1 + 1) {\ni0 = i0 + k1;\n}\nf_put_int(i0);\nf_record();\n";
-
-/// A part that waits for more turns, before anything is written.
-fn limit(turns: u128) -> Part {
-    Part {
-        turns,
-        end: End::TurnLimit,
-        written: b"",
-    }
-}
-
-/// Whether a run in parts, of which the first has so many turns and the last only one, comes to its end with the last.
-fn waits_for_more(alloc: Global, first: u128) -> Result<bool, Fail> {
-    let text = text_of(alloc, MANY, "")?;
-    let last = Part {
-        turns: 1,
-        end: End::Ended,
-        written: b" 780\n",
-    };
-    let parts = [limit(first), limit(39u128.saturating_sub(first)), last];
-    goes(alloc, text.as_slice(), b"", &[], &parts, 0)
-}
-
-#[test]
-fn a_loop_of_many_turns_waits_for_more(rt: HostRuntime) -> Result<(), Fail> {
-    for first in [0, 1, 2, 17, 39] {
-        assert!(rt; waits_for_more(rt.alloc(), first)?, "{first} turns");
-    }
-    Ok(())
-}
-
-const LOOP: &str =
-    "for (k1 = 0; k1 < 5; k1 = k1 + 1) {\nf_put_int(k1);\nf_record();\n}\nf2(1);\nf_record();\n";
-
-const WHOLE: &[u8] = b" 0\n 1\n 2\n 3\n 4\n 1\n";
-
-/// How much of it is written after so many turns.
-const WRITTEN_AFTER: [usize; 8] = [0, 3, 6, 9, 12, 15, 15, 18];
-
-/// A run with so many turns more, which are so many in all.
-fn part_of(more: usize, turns: usize) -> Part {
-    let length = WRITTEN_AFTER.get(turns).copied().unwrap_or(0);
-    Part {
-        turns: more as u128,
-        end: if turns < 7 {
-            End::TurnLimit
-        } else {
-            End::Ended
-        },
-        written: WHOLE.get(..length).unwrap_or(b""),
-    }
-}
-
-const REST: Part = Part {
-    turns: PLENTY,
-    end: End::Ended,
-    written: WHOLE,
-};
-
-/// Whether a run in two parts comes to what a run with all their turns comes to, and goes on as that does.
-fn parts_are_one_run(alloc: Global, first: usize, turns: usize) -> Result<bool, Fail> {
-    let text = text_of(alloc, LOOP, FUNCTIONS)?;
-    let parts = [
-        part_of(first, first),
-        part_of(turns.saturating_sub(first), turns),
-        // with no turn more nothing follows
-        part_of(0, turns),
-        REST,
-        REST,
-    ];
-    goes(alloc, text.as_slice(), b"", &[], &parts, 0)
-}
-
-#[test]
-fn parts_of_a_run_are_one_run(rt: HostRuntime) -> Result<(), Fail> {
-    for turns in 0..=7 {
-        // with so many turns at once, and in two parts
-        for first in 0..=turns {
-            assert!(rt;
-                parts_are_one_run(rt.alloc(), first, turns)?,
-                "{first} of {turns} turns"
-            );
-        }
-    }
-    Ok(())
-}
-
-const BROKEN: Part = Part {
-    turns: PLENTY,
-    end: End::WriteFault,
-    written: b" 0\n 1",
-};
-
-#[test]
-fn a_sink_that_fails_ends_the_run(rt: HostRuntime) -> Result<(), Fail> {
-    let text = text_of(rt.alloc(), LOOP, FUNCTIONS)?;
-    assert!(rt; goes(rt.alloc(), text.as_slice(), b"", &[2], &[BROKEN], 1)?);
-    assert!(rt; goes(rt.alloc(), text.as_slice(), b"", &[2], &[BROKEN, BROKEN], 1)?);
-    Ok(())
-}
-
-const ENDS: [(&str, End); 3] = [
-    (
-        "f_put_int(1);\nf_record();\nf_at(2);\nf_fault(1);\n",
-        End::Fault {
-            kind: FaultKind::ZeroDivide,
-            line: Line(2),
-        },
-    ),
-    (
-        "f_put_int(1);\nf_record();\ni1 = 1 / 0;\n",
-        End::Stuck { why: 3 },
-    ),
-    (
-        "f_put_int(1);\nf_record();\nf_put_int(2);\nf_stop();\n",
-        End::Ended,
-    ),
-];
-
-fn ends_twice(alloc: Global, main: &str, end: End) -> Result<bool, Fail> {
-    let text = text_of(alloc, main, "")?;
-    let written = b" 1\n";
-    let parts = [
-        Part {
-            turns: 0,
-            end,
-            written,
-        },
-        Part {
-            turns: 5,
-            end,
-            written,
-        },
-    ];
-    goes(alloc, text.as_slice(), b"", &[], &parts, 0)
-}
-
-#[test]
-fn an_end_is_answered_again(rt: HostRuntime) -> Result<(), Fail> {
-    for (main, end) in &ENDS {
-        assert!(rt; ends_twice(rt.alloc(), *main, *end)?, "{main}");
-    }
     Ok(())
 }

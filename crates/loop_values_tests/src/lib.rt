@@ -1,5 +1,9 @@
-//! Tests of what a running LoopC program holds, and of its built-ins.
+//! Tests of the variables of a running LoopC program, and of its built-ins.
 #![tactic(auto)]
 
 #[cfg(test)]
-mod values;
+mod integers;
+#[cfg(test)]
+mod texts;
+#[cfg(test)]
+mod variables;
