@@ -9,6 +9,4 @@ mod calls;
 #[cfg(test)]
 mod command_lines;
 #[cfg(test)]
-mod reads;
-#[cfg(test)]
 mod runs;

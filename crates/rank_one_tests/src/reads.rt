@@ -4,7 +4,9 @@ use std::alloc::{AllocError, Global};
 use std::test::Fail;
 
 /// What a text is refused for: phase, line and rule, or None where it is read.
-fn refused(alloc: Global, text: &[u8]) -> Result<Option<(u8, u32, u8)>, Fail> {
+type Told = Option<(u8, u32, u8)>;
+
+fn refused(alloc: Global, text: &[u8]) -> Result<Told, Fail> {
     match read(alloc, text) {
         Ok(_) => Ok(None),
         Err(Refusal::Refused { phase, line, rule }) => Ok(Some((phase, line.0, rule.0))),
@@ -12,9 +14,9 @@ fn refused(alloc: Global, text: &[u8]) -> Result<Option<(u8, u32, u8)>, Fail> {
     }
 }
 
-const NO_SOURCE: Option<(u8, u32, u8)> = Some((3, 1, 47));
+const NO_SOURCE: Told = Some((3, 1, 47));
 
-const TEXTS: [(&str, Option<(u8, u32, u8)>); 26] = [
+const TEXTS: [(&str, Told); 26] = [
     ("program p\ninteger :: a(3)\na = 2\nprint *, a\nend\n", None),
     ("program p; integer :: a(3); a = 2; print *, a; end", None),
     (
@@ -55,16 +57,25 @@ const TEXTS: [(&str, Option<(u8, u32, u8)>); 26] = [
     ("program a2345678901234567890123456789012\nend", NO_SOURCE),
 ];
 
+fn first_wrong(alloc: Global, rows: &[(&'static str, Told)]) -> Result<Option<&'static str>, Fail> {
+    for (text, want) in rows {
+        if refused(alloc, text.as_bytes())? != *want {
+            return Ok(Some(*text));
+        }
+    }
+    Ok(None)
+}
+
 #[test]
 fn texts_are_read_or_refused(rt: HostRuntime) -> Result<(), Fail> {
-    for (text, want) in &TEXTS {
-        assert!(rt; refused(rt.alloc(), text.as_bytes())? == *want, "{text}");
-    }
+    assert_eq!(rt; first_wrong(rt.alloc(), &TEXTS)?, None);
     Ok(())
 }
 
 /// A text's front, a byte that stands behind it so many times, and the text's end; at the limits of a line and of a text.
-const LONG: [(&str, u8, usize, &str, Option<(u8, u32, u8)>); 4] = [
+type Long = (&'static str, u8, usize, &'static str, Told);
+
+const LONG: [Long; 4] = [
     ("program p", b' ', 123, "\nend", None),
     ("program p", b' ', 124, "\nend", NO_SOURCE),
     ("program p\nend", b'\n', (1 << 20) - 13, "", None),
@@ -86,15 +97,19 @@ fn filled(
     Ok(text)
 }
 
+fn first_wrong_long(alloc: Global, rows: &[Long]) -> Result<Option<usize>, Fail> {
+    for (row, (front, byte, count, end, want)) in rows.iter().enumerate() {
+        let text = filled(alloc, *front, *byte, *count, *end)?;
+        if refused(alloc, text.as_slice())? != *want {
+            return Ok(Some(row));
+        }
+    }
+    Ok(None)
+}
+
 #[test]
 fn long_lines_and_texts(rt: HostRuntime) -> Result<(), Fail> {
-    for (front, byte, count, end, want) in &LONG {
-        let text = filled(rt.alloc(), *front, *byte, *count, *end)?;
-        assert!(rt;
-            refused(rt.alloc(), text.as_slice())? == *want,
-            "{count} times {byte}"
-        );
-    }
+    assert_eq!(rt; first_wrong_long(rt.alloc(), &LONG)?, None);
     Ok(())
 }
 
