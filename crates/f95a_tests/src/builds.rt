@@ -2,7 +2,8 @@
 use crate::command_lines::{
     Came, Failing, carried_out, first_no_usage, first_not_failed, first_not_refused, over_failing,
 };
-use f95a_core::{Status, code};
+use f95a_core::{Status, code, compile};
+use loop_text::print;
 use std::alloc::{AllocError, Global};
 use std::test::Fail;
 
@@ -16,21 +17,31 @@ const ACCEPTED: [&str; 5] = [
 
 /// Whether the source is built, with no note.
 fn is_built(alloc: Global, source: &str) -> Result<bool, AllocError> {
-    let came = carried_out(alloc, &["build", "p.f95"], source.as_bytes(), b"")?;
-    let out = came.out.as_slice();
+    let came = carried_out(alloc, &["build", "p"], source.as_bytes(), b"")?;
+    let out = came.out();
     Ok(
         came.code == 0
-            && came.notes.is_empty()
+            && came.notes().is_empty()
             && out.starts_with(b"/* LoopC 1 */\nvoid f0() {\n")
             && out.ends_with(b"}\n"),
     )
 }
 
+fn first_not_built(
+    alloc: Global,
+    sources: &[&'static str],
+) -> Result<Option<&'static str>, AllocError> {
+    for source in sources {
+        if !is_built(alloc, *source)? {
+            return Ok(Some(*source));
+        }
+    }
+    Ok(None)
+}
+
 #[test]
 fn accepted_sources_are_built(rt: HostRuntime) -> Result<(), Fail> {
-    for source in &ACCEPTED {
-        assert!(rt; is_built(rt.alloc(), *source)?, "{source}");
-    }
+    assert_eq!(rt; first_not_built(rt.alloc(), &ACCEPTED)?, None);
     Ok(())
 }
 
@@ -74,7 +85,7 @@ const REFUSED: [(&str, &str); 20] = [
 #[test]
 fn other_sources_are_refused(rt: HostRuntime) -> Result<(), Fail> {
     assert_eq!(rt;
-        first_not_refused(rt.alloc(), &["build", "p.f95"], 1, &REFUSED)?,
+        first_not_refused(rt.alloc(), &["build", "p"], 1, &REFUSED)?,
         None
     );
     Ok(())
@@ -168,7 +179,7 @@ const LATE: Failing = Failing {
 #[test]
 fn what_fails_too_late_is_not_told(rt: HostRuntime) -> Result<(), Fail> {
     let came = over_failing(rt.alloc(), &["build", "p"], SHORT, b"", LATE)?;
-    assert!(rt; came.code == 0 && came.notes.is_empty());
+    assert!(rt; came.code == 0 && came.notes().is_empty());
     Ok(())
 }
 
@@ -184,7 +195,7 @@ fn assignments(alloc: Global, count: usize) -> Result<String, AllocError> {
 
 /// Whether the put failed, and a front of the whole was written, longer than that put's piece.
 fn is_cut_off(whole: &Came, cut: &Came) -> bool {
-    let (whole, front) = (whole.out.as_slice(), cut.out.as_slice());
+    let (whole, front) = (whole.out(), cut.out());
     cut.is(9, front, "f95a: write fault\n")
         && front.len() > 3
         && front.len() < whole.len()
@@ -220,9 +231,26 @@ const CODES: [(Status, u8); 7] = [
     (Status::Memory, 10),
 ];
 
+fn first_wrong_code(rows: &[(Status, u8)]) -> Option<u8> {
+    for (status, want) in rows {
+        if code(status) != *want {
+            return Some(*want);
+        }
+    }
+    None
+}
+
 #[test]
 fn each_status_has_its_code(rt: HostRuntime) {
-    for (status, want) in &CODES {
-        assert_eq!(rt; code(status), *want);
-    }
+    assert_eq!(rt; first_wrong_code(&CODES), None);
+}
+
+#[test]
+fn a_source_is_compiled_and_printed(rt: HostRuntime) -> Result<(), Fail> {
+    let source = b"program p; integer :: a(3); a = a - 2 * a; print *, a; end";
+    let program = compile(rt.alloc(), source)?;
+    let text = print(rt.alloc(), &program)?;
+    let built = carried_out(rt.alloc(), &["build", "p"], source, b"")?;
+    assert!(rt; text.as_slice() == built.out());
+    Ok(())
 }

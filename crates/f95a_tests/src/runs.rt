@@ -1,6 +1,6 @@
 //! What `run` answers on texts, inputs, words and failing devices.
 use crate::command_lines::{
-    Came, Failing, carried_out, first_no_usage, first_not_failed, first_not_refused,
+    Came, Failing, carried_out, first_no_usage, first_not_failed, first_not_refused, over_failing,
 };
 use std::alloc::{AllocError, Global};
 use std::test::Fail;
@@ -16,7 +16,9 @@ fn text_of(alloc: Global, lines: &str) -> Result<String, AllocError> {
 const FOREVER: &str = "while (1) {\nf_put_int(7);\nf_record();\n}\n";
 
 /// The lines of a program, its input; the exit code, the output and the note.
-const PROGRAMS: [(&str, &str, u8, &str, &str); 12] = [
+type Done = (&'static str, &'static str, u8, &'static str, &'static str);
+
+const PROGRAMS: [Done; 12] = [
     ("", "", 0, "", ""),
     ("f_put_int(2);\nf_record();\n", "", 0, " 2\n", ""),
     ("f_record();\n", "", 0, "\n", ""),
@@ -61,31 +63,24 @@ const PROGRAMS: [(&str, &str, u8, &str, &str); 12] = [
     ),
 ];
 
-fn does(
-    alloc: Global,
-    lines: &str,
-    input: &str,
-    code: u8,
-    out: &str,
-    note: &str,
-) -> Result<bool, AllocError> {
-    let text = text_of(alloc, lines)?;
-    let came = carried_out(alloc, &["run", "p"], text.as_bytes(), input.as_bytes())?;
-    Ok(came.is(code, out.as_bytes(), note))
+fn first_not_done(alloc: Global, rows: &[Done]) -> Result<Option<&'static str>, AllocError> {
+    for (lines, input, code, out, note) in rows {
+        let text = text_of(alloc, *lines)?;
+        let came = carried_out(alloc, &["run", "p"], text.as_bytes(), input.as_bytes())?;
+        if !came.is(*code, out.as_bytes(), *note) {
+            return Ok(Some(*lines));
+        }
+    }
+    Ok(None)
 }
 
 #[test]
 fn programs_do_their_work(rt: HostRuntime) -> Result<(), Fail> {
-    for (lines, input, code, out, note) in &PROGRAMS {
-        assert!(rt;
-            does(rt.alloc(), *lines, *input, *code, *out, *note)?,
-            "{lines}"
-        );
-    }
+    assert_eq!(rt; first_not_done(rt.alloc(), &PROGRAMS)?, None);
     Ok(())
 }
 
-const SOURCES: [(&str, &str); 4] = [
+const SOURCES: [(&str, &str); 10] = [
     (
         "program p; integer :: a(3); a = 2; print *, a; end",
         " 2 2 2\n",
@@ -96,23 +91,54 @@ const SOURCES: [(&str, &str); 4] = [
     ),
     ("program p; integer :: a(0); print *, a; end", "\n"),
     ("program p; end", ""),
+    ("program p; integer :: a(2); print *, a; end", " 0 0\n"),
+    (
+        "program p; integer :: a(3), b(3); b = 7; a = b * b - 50; print *, a, b; end",
+        " -1 -1 -1 7 7 7\n",
+    ),
+    (
+        "program p; integer :: a(1); a = 65536 * 65536 * 65536 * 65536 + 3; print *, a; end",
+        " 3\n",
+    ),
+    (
+        "program p; integer :: a(1); a = 2147483647 * 2147483647 * 2147483647; print *, a; end",
+        " 2147483647\n",
+    ),
+    (
+        "program p; integer :: a(2); a = 3; a = a + a * a - 2 * a; print *, a; a = a - 7; print *, a, a; end",
+        " 6 6\n -1 -1 -1 -1\n",
+    ),
+    (
+        "program p; integer :: a(1), b(2); b = 1 - 2 - 3; a = 10 - 2 * 3 * 4; print *, b, a; print *, a, b; end",
+        " -4 -4 -14\n -14 -4 -4\n",
+    ),
 ];
 
 /// Whether what is built of a source prints this, with any number of turns that will do.
 fn builds_and_runs(alloc: Global, source: &str, out: &str) -> Result<bool, AllocError> {
     let built = carried_out(alloc, &["build", "p"], source.as_bytes(), b"")?;
-    let text = built.out.as_slice();
+    let text = built.out();
     let plain = carried_out(alloc, &["run", "p"], text, b"left alone")?;
     let nines = "99999999999999999999999999999999999999";
     let limited = carried_out(alloc, &["run", "p", "--turns", nines], text, b"left alone")?;
     Ok(built.code == 0 && plain.is(0, out.as_bytes(), "") && limited.is(0, out.as_bytes(), ""))
 }
 
+fn first_not_built_and_run(
+    alloc: Global,
+    rows: &[(&'static str, &'static str)],
+) -> Result<Option<&'static str>, AllocError> {
+    for (source, out) in rows {
+        if !builds_and_runs(alloc, *source, *out)? {
+            return Ok(Some(*source));
+        }
+    }
+    Ok(None)
+}
+
 #[test]
 fn what_is_built_is_run(rt: HostRuntime) -> Result<(), Fail> {
-    for (source, out) in &SOURCES {
-        assert!(rt; builds_and_runs(rt.alloc(), *source, *out)?, "{source}");
-    }
+    assert_eq!(rt; first_not_built_and_run(rt.alloc(), &SOURCES)?, None);
     Ok(())
 }
 
@@ -123,18 +149,24 @@ const TURNS: [(&str, &str); 4] = [
     ("00000000000000000000000000000000000003", " 7\n 7\n 7\n"),
 ];
 
-fn is_limited(alloc: Global, turns: &str, out: &str) -> Result<bool, AllocError> {
+fn first_not_limited(
+    alloc: Global,
+    rows: &[(&'static str, &'static str)],
+) -> Result<Option<&'static str>, AllocError> {
     let text = text_of(alloc, FOREVER)?;
-    let words = ["run", "p", "--turns", turns];
-    let came = carried_out(alloc, &words, text.as_bytes(), b"")?;
-    Ok(came.is(6, out.as_bytes(), "f95a: turn limit\n"))
+    for (turns, out) in rows {
+        let words = ["run", "p", "--turns", *turns];
+        let came = carried_out(alloc, &words, text.as_bytes(), b"")?;
+        if !came.is(6, out.as_bytes(), "f95a: turn limit\n") {
+            return Ok(Some(*turns));
+        }
+    }
+    Ok(None)
 }
 
 #[test]
 fn turns_are_counted(rt: HostRuntime) -> Result<(), Fail> {
-    for (turns, out) in &TURNS {
-        assert!(rt; is_limited(rt.alloc(), *turns, *out)?, "{turns}");
-    }
+    assert_eq!(rt; first_not_limited(rt.alloc(), &TURNS)?, None);
     Ok(())
 }
 
@@ -183,18 +215,104 @@ fn other_words_to_run_are_usage(rt: HostRuntime) -> Result<(), Fail> {
     Ok(())
 }
 
-/// A program on an input of so many blanks.
-fn on_blanks(alloc: Global, blanks: usize) -> Result<Came, AllocError> {
-    let text = text_of(alloc, "f_put_int(1);\nf_record();\n")?;
+const ONE: &[u8] = b"/* LoopC 1 */\nvoid f0() {\nf_put_int(1);\nf_record();\n}\n";
+
+const NO_TEXT: &[u8] = b"/* LoopC 1 */\nvoid f0() {\nf_put_int(1);\nf_record();\n";
+
+/// A file that is run on an input of so many blanks.
+fn on_blanks(alloc: Global, file: &[u8], blanks: usize) -> Result<Came, AllocError> {
     let mut input = Vec::new(alloc);
     input.resize(blanks, b' ')?;
-    carried_out(alloc, &["run", "p"], text.as_bytes(), input.as_slice())
+    carried_out(alloc, &["run", "p"], file, input.as_slice())
 }
 
 #[test]
 fn an_input_may_be_too_long(rt: HostRuntime) -> Result<(), Fail> {
-    assert!(rt; on_blanks(rt.alloc(), 1 << 24)?.is(0, b" 1\n", ""));
-    assert!(rt; on_blanks(rt.alloc(), (1 << 24) + 1)?.is(7, b"", "f95a: input too long\n"));
+    let most = 1 << 24;
+    assert!(rt; on_blanks(rt.alloc(), ONE, most)?.is(0, b" 1\n", ""));
+    assert!(rt; on_blanks(rt.alloc(), ONE, most + 1)?.is(7, b"", "f95a: input too long\n"));
+    let no_text = "f95a: text refused at line 5\n";
+    assert!(rt; on_blanks(rt.alloc(), NO_TEXT, most + 1)?.is(4, b"", no_text));
+    Ok(())
+}
+
+const NO_LOAD: Failing = Failing {
+    loads: &[],
+    takes: &[1],
+    puts: &[1],
+    told: &[],
+};
+
+#[test]
+fn what_is_no_text_takes_no_input(rt: HostRuntime) -> Result<(), Fail> {
+    let mut came = over_failing(rt.alloc(), &["run", "p"], NO_TEXT, b"7", NO_LOAD)?;
+    assert!(rt; came.is(4, b"", "f95a: text refused at line 5\n"));
+    assert!(rt; came.took_nothing() && came.put_nothing());
+    Ok(())
+}
+
+/// Words, and the name of the file that isn't loaded, where there is none but `p`.
+const OPERANDS: [(&[&str], &str); 5] = [
+    (&["build", "q"], "q"),
+    (&["run", "a.loop"], "a.loop"),
+    (&["run", "", "--turns", "3"], ""),
+    (&["run", "P", "--turns", "3"], "P"),
+    (&["build", "p "], "p "),
+];
+
+fn first_not_named(
+    alloc: Global,
+    rows: &[(&[&str], &'static str)],
+) -> Result<Option<&'static str>, AllocError> {
+    for (words, name) in rows {
+        let came = carried_out(alloc, *words, ONE, b"")?;
+        if !came.is(8, b"", "f95a: read fault\n") || came.failed() != *name {
+            return Ok(Some(*name));
+        }
+    }
+    Ok(None)
+}
+
+#[test]
+fn a_file_that_is_not_loaded_is_named(rt: HostRuntime) -> Result<(), Fail> {
+    assert_eq!(rt; first_not_named(rt.alloc(), &OPERANDS)?, None);
+    let came = carried_out(rt.alloc(), &["run", "p"], ONE, b"")?;
+    assert!(rt; came.code == 0 && came.failed().is_empty());
+    Ok(())
+}
+
+/// The put that fails, having passed three bytes, what comes of that, and what is written then.
+type FailingPut = (&'static [u64], u8, &'static str, &'static str);
+
+const FAILING_PUTS: [FailingPut; 4] = [
+    (&[1], 9, " 1 ", "f95a: write fault\n"),
+    (&[2], 9, " 1 2\n\n", "f95a: write fault\n"),
+    (&[3], 9, " 1 2\n\n 3 ", "f95a: write fault\n"),
+    (&[4], 0, " 1 2\n\n 3 4 5\n", ""),
+];
+
+const RECORDS: &[u8] =
+    b"/* LoopC 1 */\nvoid f0() {\nf_put_int(1);\nf_put_int(2);\nf_record();\nf_record();\nf_put_int(3);\nf_put_int(4);\nf_put_int(5);\nf_record();\n}\n";
+
+fn first_not_one_put(alloc: Global, rows: &[FailingPut]) -> Result<Option<usize>, AllocError> {
+    for (row, (puts, code, out, note)) in rows.iter().enumerate() {
+        let failing = Failing {
+            loads: &[],
+            takes: &[],
+            puts: *puts,
+            told: &[],
+        };
+        let came = over_failing(alloc, &["run", "p"], RECORDS, b"", failing)?;
+        if !came.is(*code, out.as_bytes(), *note) {
+            return Ok(Some(row));
+        }
+    }
+    Ok(None)
+}
+
+#[test]
+fn each_record_is_one_put(rt: HostRuntime) -> Result<(), Fail> {
+    assert_eq!(rt; first_not_one_put(rt.alloc(), &FAILING_PUTS)?, None);
     Ok(())
 }
 
