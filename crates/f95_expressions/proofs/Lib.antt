@@ -1,0 +1,11 @@
+pub mod Table
+pub mod Lists
+pub mod Fields
+pub mod Again
+pub mod Read
+pub mod State
+pub mod Made
+pub mod Sound
+pub mod Found
+pub mod Reduce
+pub mod Runs

@@ -1,0 +1,373 @@
+//! Statements that begin, part and end blocks, as `specs/Reading` says.
+
+ghost use Rattle.std.specs.Prelude.{◌≡◌, [], ◌∷◌, IfOk, option_map, option_and_then};
+ghost use Rattle.f95_expressions.specs.Machine.{row, expression_of, whole, first_in};
+ghost use Rattle.f95_statements.specs.Views.{nothing_more};
+ghost use Rattle.f95_parser.specs.Reading.{whole_condition, is_then, if_block, select_by, select_of, index_of, counted_by, counted_in, counted, while_of, control_by, controlled, do_of, opened_by, labelled, case_in, case_of, else_if, else_where, else_of, end_block};
+
+use a95_base::Bytes;
+use f95_expressions::{Closed, Field, Spread, Stack, bracket, expression_of, row, whole};
+use f95_statements::{
+    Condition, behind, behind_keyword, behind_word, collected, conditioned, is_nil, name_at_end,
+    spread_expression,
+};
+use f95_tree::{BlockForm, BlockWord, Control, Expression, Keyword, Punctuation, Terminal};
+use std::alloc::{AllocError, Global};
+
+/// A condition in brackets with nothing behind them.
+pub fn whole_condition(
+    alloc: Global,
+    terminals: &[Terminal],
+) -> Result<Option<Expression>, AllocError>
+    ensures { IfOk result (λ condition. condition ≡ whole_condition terminals.now) }
+{
+    match conditioned(alloc, terminals)? {
+        None => Ok(None),
+        Some(Condition { expression, rest }) => {
+            if is_nil(rest) {
+                Ok(Some(expression))
+            } else {
+                Ok(None)
+            }
+        }
+    }
+}
+
+/// Whether these terminals are THEN alone.
+pub fn is_then(terminals: &[Terminal]) -> bool
+    ensures { result ≡ is_then terminals.now }
+{
+    match behind_word(b"then", terminals) {
+        None => false,
+        Some(rest) => is_nil(rest),
+    }
+}
+
+fn if_block(
+    alloc: Global,
+    name: Option<Bytes>,
+    terminals: &[Terminal],
+) -> Result<Option<BlockForm>, AllocError>
+    ensures { IfOk result (λ form. form ≡ if_block name terminals.now) }
+{
+    match conditioned(alloc, terminals)? {
+        None => Ok(None),
+        Some(Condition { expression, rest }) => {
+            if is_then(rest) {
+                Ok(Some(BlockForm::If(name, expression)))
+            } else {
+                Ok(None)
+            }
+        }
+    }
+}
+
+fn select_by(
+    alloc: Global,
+    name: Option<Bytes>,
+    keyword: Keyword,
+    rest: &[Terminal],
+) -> Result<Option<BlockForm>, AllocError>
+    ensures { IfOk result (λ form. form ≡ select_by name keyword rest.now) }
+{
+    match keyword {
+        Keyword::Case => match whole_condition(alloc, rest)? {
+            None => Ok(None),
+            Some(selector) => Ok(Some(BlockForm::Select(name, selector))),
+        },
+        _ => Ok(None),
+    }
+}
+
+pub fn select_of(
+    alloc: Global,
+    name: Option<Bytes>,
+    terminals: &[Terminal],
+) -> Result<Option<BlockForm>, AllocError>
+    ensures { IfOk result (λ form. form ≡ select_of name terminals.now) }
+{
+    match behind_keyword(terminals) {
+        None => Ok(None),
+        Some(keyed) => select_by(alloc, name, keyed.keyword, keyed.rest),
+    }
+}
+
+fn index_name(left: Option<Expression>) -> Option<Bytes>
+    ensures { result ≡ option_and_then whole left }
+{
+    whole(left?)
+}
+
+fn counted_to(
+    comma: bool,
+    name: Bytes,
+    first: Expression,
+    last: Field,
+    step: Option<Expression>,
+) -> Option<Control>
+    ensures { result ≡ option_map (λ to. Control.Counted comma name first to step) (expression_of last) }
+{
+    let last = expression_of(last)?;
+    Some(Control::Counted(comma, name, first, last, step))
+}
+
+fn counted_from(
+    comma: bool,
+    name: Bytes,
+    spread: Spread,
+    last: Field,
+    step: Option<Expression>,
+) -> Option<Control>
+    ensures { result ≡ option_and_then (λ from. option_map (λ to. Control.Counted comma name from to step) (expression_of last)) (first_in spread) }
+{
+    match spread_expression(spread) {
+        None => None,
+        Some(first) => counted_to(comma, name, first, last, step),
+    }
+}
+
+fn counted_by(comma: bool, index: Field, last: Field, step: Option<Expression>) -> Option<Control>
+    ensures { result ≡ counted_by comma index last step }
+{
+    let Field { left, spread } = index;
+    match index_name(left) {
+        None => None,
+        Some(name) => counted_from(comma, name, spread, last, step),
+    }
+}
+
+fn counted_two(comma: bool, fields: Stack<Field>, index: Field, last: Field) -> Option<Control>
+    ensures { result ≡ counted_in comma (last ∷ index ∷ fields) }
+{
+    let mut fields = fields;
+    let Some(third) = fields.pop() else {
+        return counted_by(comma, index, last, None);
+    };
+    match fields.top() {
+        Some(_) => None,
+        None => counted_three(comma, third, index, last),
+    }
+}
+
+fn counted_three(comma: bool, index: Field, last: Field, step: Field) -> Option<Control>
+    ensures { result ≡ option_and_then (λ step. counted_by comma index last (Some step)) (expression_of step) }
+{
+    let step = expression_of(step)?;
+    counted_by(comma, index, last, Some(step))
+}
+
+fn counted_in(comma: bool, fields: Stack<Field>) -> Option<Control>
+    ensures { result ≡ counted_in comma fields }
+{
+    let mut fields = fields;
+    let last = fields.pop()?;
+    let before = fields.pop()?;
+    counted_two(comma, fields, before, last)
+}
+
+fn counted(
+    alloc: Global,
+    comma: bool,
+    terminals: &[Terminal],
+) -> Result<Option<Control>, AllocError>
+    ensures { IfOk result (λ control. control ≡ counted comma terminals.now) }
+{
+    match row(alloc, terminals)? {
+        None => Ok(None),
+        Some(fields) => Ok(counted_in(comma, fields)),
+    }
+}
+
+fn while_of(
+    alloc: Global,
+    comma: bool,
+    terminals: &[Terminal],
+) -> Result<Option<Control>, AllocError>
+    ensures { IfOk result (λ control. control ≡ while_of comma terminals.now) }
+{
+    let Some(rest) = behind_word(b"while", terminals) else {
+        return Ok(None);
+    };
+    match whole_condition(alloc, rest)? {
+        None => Ok(None),
+        Some(condition) => Ok(Some(Control::While(comma, condition))),
+    }
+}
+
+fn control_by(
+    alloc: Global,
+    comma: bool,
+    terminals: &[Terminal],
+) -> Result<Option<Control>, AllocError>
+    ensures { IfOk result (λ control. control ≡ control_by comma terminals.now) }
+{
+    match while_of(alloc, comma, terminals)? {
+        Some(control) => Ok(Some(control)),
+        None => counted(alloc, comma, terminals),
+    }
+}
+
+fn controlled(alloc: Global, terminals: &[Terminal]) -> Result<Option<Control>, AllocError>
+    ensures { IfOk result (λ control. control ≡ controlled terminals.now) }
+{
+    if is_nil(terminals) {
+        return Ok(Some(Control::Forever));
+    }
+    match behind(Punctuation::Comma, terminals) {
+        Some(rest) => control_by(alloc, true, rest),
+        None => control_by(alloc, false, terminals),
+    }
+}
+
+pub fn do_of(
+    alloc: Global,
+    name: Option<Bytes>,
+    terminals: &[Terminal],
+) -> Result<Option<BlockForm>, AllocError>
+    ensures { IfOk result (λ form. form ≡ do_of name terminals.now) }
+{
+    match controlled(alloc, terminals)? {
+        None => Ok(None),
+        Some(control) => Ok(Some(BlockForm::Do(name, control))),
+    }
+}
+
+fn opened_by(
+    alloc: Global,
+    name: Option<Bytes>,
+    word: BlockWord,
+    terminals: &[Terminal],
+) -> Result<Option<BlockForm>, AllocError>
+    ensures { IfOk result (λ form. form ≡ opened_by name word terminals.now) }
+{
+    match word {
+        BlockWord::If => if_block(alloc, name, terminals),
+        BlockWord::Select => select_of(alloc, name, terminals),
+        BlockWord::Do => do_of(alloc, name, terminals),
+        _ => Ok(None),
+    }
+}
+
+/// IF, SELECT or DO behind a name and a colon.
+pub fn labelled(
+    alloc: Global,
+    name: &Bytes,
+    terminals: &[Terminal],
+) -> Result<Option<BlockForm>, AllocError>
+    ensures { IfOk result (λ form. form ≡ labelled name.now terminals.now) }
+{
+    let Some(keyed) = behind_keyword(terminals) else {
+        return Ok(None);
+    };
+    match keyed.keyword {
+        Keyword::Block(word) => {
+            let name = name.copy(alloc)?;
+            opened_by(alloc, Some(name), word, keyed.rest)
+        }
+        _ => Ok(None),
+    }
+}
+
+fn case_in(alloc: Global, terminals: &[Terminal]) -> Result<Option<BlockForm>, AllocError>
+    ensures { IfOk result (λ form. form ≡ case_in terminals.now) }
+{
+    let Some(inside) = behind(Punctuation::Open, terminals) else {
+        return Ok(None);
+    };
+    let Some(Closed { fields, rest }) = bracket(alloc, inside)? else {
+        return Ok(None);
+    };
+    let Some(ranges) = collected(alloc, fields)? else {
+        return Ok(None);
+    };
+    match name_at_end(alloc, rest)? {
+        None => Ok(None),
+        Some(name) => Ok(Some(BlockForm::Case(ranges, name))),
+    }
+}
+
+pub fn case_of(alloc: Global, terminals: &[Terminal]) -> Result<Option<BlockForm>, AllocError>
+    ensures { IfOk result (λ form. form ≡ case_of terminals.now) }
+{
+    let Some(rest) = behind_word(b"default", terminals) else {
+        return case_in(alloc, terminals);
+    };
+    match name_at_end(alloc, rest)? {
+        None => Ok(None),
+        Some(name) => Ok(Some(BlockForm::CaseDefault(name))),
+    }
+}
+
+fn else_if(alloc: Global, terminals: &[Terminal]) -> Result<Option<BlockForm>, AllocError>
+    ensures { IfOk result (λ form. form ≡ else_if terminals.now) }
+{
+    let Some(Condition { expression, rest }) = conditioned(alloc, terminals)? else {
+        return Ok(None);
+    };
+    let Some(end) = behind_word(b"then", rest) else {
+        return Ok(None);
+    };
+    match name_at_end(alloc, end)? {
+        None => Ok(None),
+        Some(name) => Ok(Some(BlockForm::ElseIf(expression, name))),
+    }
+}
+
+fn else_where(alloc: Global, terminals: &[Terminal]) -> Result<Option<BlockForm>, AllocError>
+    ensures { IfOk result (λ form. form ≡ else_where terminals.now) }
+{
+    if is_nil(terminals) {
+        return Ok(Some(BlockForm::ElseWhere(None)));
+    }
+    match whole_condition(alloc, terminals)? {
+        None => Ok(None),
+        Some(mask) => Ok(Some(BlockForm::ElseWhere(Some(mask)))),
+    }
+}
+
+pub fn else_of(alloc: Global, terminals: &[Terminal]) -> Result<Option<BlockForm>, AllocError>
+    ensures { IfOk result (λ form. form ≡ else_of terminals.now) }
+{
+    let Some(keyed) = behind_keyword(terminals) else {
+        return match name_at_end(alloc, terminals)? {
+            None => Ok(None),
+            Some(name) => Ok(Some(BlockForm::Else(name))),
+        };
+    };
+    match keyed.keyword {
+        Keyword::Block(BlockWord::If) => else_if(alloc, keyed.rest),
+        Keyword::Block(BlockWord::Where) => else_where(alloc, keyed.rest),
+        _ => Ok(None),
+    }
+}
+
+fn nothing_more(form: BlockForm, terminals: &[Terminal]) -> Option<BlockForm>
+    ensures { result ≡ nothing_more form terminals.now }
+{
+    if is_nil(terminals) { Some(form) } else { None }
+}
+
+pub fn end_block(
+    alloc: Global,
+    word: BlockWord,
+    terminals: &[Terminal],
+) -> Result<Option<BlockForm>, AllocError>
+    ensures { IfOk result (λ form. form ≡ end_block word terminals.now) }
+{
+    match word {
+        BlockWord::If => match name_at_end(alloc, terminals)? {
+            None => Ok(None),
+            Some(name) => Ok(Some(BlockForm::EndIf(name))),
+        },
+        BlockWord::Select => match name_at_end(alloc, terminals)? {
+            None => Ok(None),
+            Some(name) => Ok(Some(BlockForm::EndSelect(name))),
+        },
+        BlockWord::Do => match name_at_end(alloc, terminals)? {
+            None => Ok(None),
+            Some(name) => Ok(Some(BlockForm::EndDo(name))),
+        },
+        BlockWord::Where => Ok(nothing_more(BlockForm::EndWhere, terminals)),
+        BlockWord::Forall => Ok(nothing_more(BlockForm::EndForall, terminals)),
+    }
+}

@@ -1,0 +1,166 @@
+//! Expressions with a bracket around each operation, as text.
+
+use f95_tree::{
+    Action, Expression, Form, Item, Literal, Operator, Reference, Relation, Sign, Value,
+};
+use sqlite_items::Boxed;
+use std::alloc::AllocError;
+use std::fmt::Write;
+
+fn operator(operator: Operator) -> &'static str {
+    match operator {
+        Operator::Power => "**",
+        Operator::Multiply => "*",
+        Operator::Divide => "/",
+        Operator::Add => "+",
+        Operator::Subtract => "-",
+        Operator::Concat => "//",
+        Operator::Relation(Relation::Equal) => "==",
+        Operator::Relation(Relation::NotEqual) => "/=",
+        Operator::Relation(_) => "<",
+        Operator::And => "&",
+        Operator::Or => "|",
+        Operator::Equivalent => "~",
+        Operator::NotEquivalent => "^",
+    }
+}
+
+fn sign(sign: Sign) -> &'static str {
+    match sign {
+        Sign::Plus => "+",
+        Sign::Minus => "-",
+        Sign::Not => "!",
+    }
+}
+
+fn put_bytes(out: &mut String, bytes: &[u8]) -> Result<(), AllocError> {
+    for b in bytes {
+        out.push(char::from(*b))?;
+    }
+    Ok(())
+}
+
+fn put_literal(out: &mut String, literal: &Literal) -> Result<(), AllocError> {
+    match literal {
+        Literal::Number(n) => write!(out, "{n}"),
+        Literal::Text(text) => put_bytes(out, text.as_slice()),
+        Literal::Logical(true) => out.push_str("T"),
+        Literal::Logical(false) => out.push_str("F"),
+    }
+}
+
+#[cycle(shown)]
+pub fn put(out: &mut String, expression: &Expression) -> Result<(), AllocError> {
+    match expression {
+        Expression::Literal(literal) => put_literal(out, literal),
+        Expression::Reference(reference) => put_reference(out, reference),
+        Expression::Bracketed(inner) => {
+            out.push_str("(")?;
+            put(out, inner.get())?;
+            out.push_str(")")
+        }
+        Expression::Constructor(values) => {
+            out.push_str("(/")?;
+            for value in values.as_slice() {
+                put_value(out, value)?;
+                out.push_str(";")?;
+            }
+            out.push_str("/)")
+        }
+        Expression::Signed(s, inner) => {
+            out.push_str("[")?;
+            out.push_str(sign(*s))?;
+            put(out, inner.get())?;
+            out.push_str("]")
+        }
+        Expression::Binary(op, left, right) => {
+            out.push_str("[")?;
+            put(out, left.get())?;
+            out.push_str(operator(*op))?;
+            put(out, right.get())?;
+            out.push_str("]")
+        }
+    }
+}
+
+#[cycle(shown)]
+fn put_maybe(out: &mut String, expression: Option<&Boxed<Expression>>) -> Result<(), AllocError> {
+    match expression {
+        None => out.push_str("_"),
+        Some(inner) => put(out, inner.get()),
+    }
+}
+
+#[cycle(shown)]
+fn put_items(out: &mut String, items: &[Item]) -> Result<(), AllocError> {
+    out.push_str("(")?;
+    for item in items {
+        put_item(out, item)?;
+        out.push_str(";")?;
+    }
+    out.push_str(")")
+}
+
+#[cycle(shown)]
+fn put_item(out: &mut String, item: &Item) -> Result<(), AllocError> {
+    match item {
+        Item::Plain(inner) => put(out, inner),
+        Item::Keyword(name, inner) => {
+            put_bytes(out, name.as_slice())?;
+            out.push_str("=")?;
+            put(out, inner)
+        }
+        Item::Triplet(lower, upper, stride) => {
+            put_maybe(out, lower.as_ref())?;
+            out.push_str(":")?;
+            put_maybe(out, upper.as_ref())?;
+            out.push_str(":")?;
+            put_maybe(out, stride.as_ref())
+        }
+    }
+}
+
+#[cycle(shown)]
+fn put_reference(out: &mut String, reference: &Reference) -> Result<(), AllocError> {
+    match reference {
+        Reference::Whole(name) => put_bytes(out, name.as_slice()),
+        Reference::Items(name, items) => {
+            put_bytes(out, name.as_slice())?;
+            put_items(out, items.as_slice())
+        }
+        Reference::Substring(name, items, lower, upper) => {
+            put_bytes(out, name.as_slice())?;
+            put_items(out, items.as_slice())?;
+            put_maybe(out, lower.as_ref())?;
+            out.push_str("..")?;
+            put_maybe(out, upper.as_ref())
+        }
+    }
+}
+
+#[cycle(shown)]
+fn put_value(out: &mut String, value: &Value) -> Result<(), AllocError> {
+    match value {
+        Value::One(inner) => put(out, inner),
+        Value::ImpliedDo(values, name, first, last, step) => {
+            for value in values.as_slice() {
+                put_value(out, value)?;
+                out.push_str(",")?;
+            }
+            put_bytes(out, name.as_slice())?;
+            put(out, first.get())?;
+            out.push_str(":")?;
+            put(out, last.get())?;
+            out.push_str(":")?;
+            put_maybe(out, step.as_ref())
+        }
+    }
+}
+
+/// The right side of an assignment.
+pub fn put_right_side(out: &mut String, form: &Form) -> Result<(), AllocError> {
+    match form {
+        Form::Action(Action::Assignment(assignment)) => put(out, &assignment.value),
+        _ => Ok(()),
+    }
+}
