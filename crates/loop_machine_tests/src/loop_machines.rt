@@ -1,9 +1,7 @@
 //! What the machine makes of LoopC: each row of the grammar, calls, faults, each stuck state, and long loops.
-use a95_base::{FaultKind, Line};
 use io_edge::{MemorySink, Sink};
 use loop_machine::{End, Machine};
 use loop_text::{NoText, read};
-use loop_tree::StuckState;
 use std::alloc::{AllocError, Global};
 use std::test::Fail;
 
@@ -58,18 +56,18 @@ pub fn goes(
     Ok(sink.faults() == faults)
 }
 
-/// Of programs' main functions, the first that doesn't come to its end with ample turns, having written this.
+/// Of programs' main functions, the first that doesn't end within ample turns, having written this.
 fn first_wrong(
     alloc: Global,
-    cases: &[(&'static str, End, &'static str)],
+    cases: &[(&'static str, &'static str)],
     others: &str,
     input: &str,
 ) -> Result<Option<&'static str>, Fail> {
-    for (main, end, written) in cases {
+    for (main, written) in cases {
         let text = text_of(alloc, *main, others)?;
         let whole = Part {
             turns: PLENTY,
-            end: *end,
+            end: End::Ended,
             written: written.as_bytes(),
         };
         if !goes(alloc, text.as_slice(), input.as_bytes(), &[], &[whole], 0)? {
@@ -79,219 +77,156 @@ fn first_wrong(
     Ok(None)
 }
 
-/// The lines of a main function, what they come to, and what they write.
-const ROWS: [(&str, End, &str); 42] = [
+/// The lines of a main function, and what they write.
+const ROWS: [(&str, &str); 42] = [
     // integers
-    (
-        "i1 = -7;\ni2 = i1;\nf_put_int(i2);\nf_record();\n",
-        End::Ended,
-        " -7\n",
-    ),
-    (
-        "i1 = 7 - 10;\nf_put_int(i1);\nf_record();\n",
-        End::Ended,
-        " -3\n",
-    ),
-    (
-        "i1 = 6 * -7;\nf_put_int(i1);\nf_record();\n",
-        End::Ended,
-        " -42\n",
-    ),
+    ("i1 = -7;\ni2 = i1;\nf_put_int(i2);\nf_record();\n", " -7\n"),
+    ("i1 = 7 - 10;\nf_put_int(i1);\nf_record();\n", " -3\n"),
+    ("i1 = 6 * -7;\nf_put_int(i1);\nf_record();\n", " -42\n"),
     (
         "i1 = -7 / 2;\ni2 = -7 % 2;\nf_put_int(i1);\nf_put_int(i2);\nf_record();\n",
-        End::Ended,
         " -3 -1\n",
     ),
     (
         "i1 = 1 < 2;\ni2 = 2 <= 1;\ni3 = 2 == 2;\ni4 = 2 != 2;\nf_put_int(i1);\nf_put_int(i2);\nf_put_int(i3);\nf_put_int(i4);\nf_record();\n",
-        End::Ended,
         " 1 0 1 0\n",
     ),
     (
         "i1 = 12 & 10;\ni2 = 12 | 10;\nf_put_int(i1);\nf_put_int(i2);\nf_record();\n",
-        End::Ended,
         " 8 14\n",
     ),
     (
         "i1 = 9223372036854775807 + 1;\ni2 = i1 < 0;\nf_put_int(i2);\nf_put_int(i1);\nf_record();\n",
-        End::Ended,
         " 1 0\n",
     ),
     (
         "i1 = f_wrap(2147483648);\ni2 = i1 < 0;\nf_put_int(i2);\nf_put_int(2147483648);\nf_record();\n",
-        End::Ended,
         " 1 -2147483648\n",
     ),
     (
         "i1 = f_pow(3, 4);\ni2 = f_pow(-2, 31);\nf_put_int(i1);\nf_put_int(i2);\nf_record();\n",
-        End::Ended,
         " 81 -2147483648\n",
     ),
-    (
-        "i1 = f_xor(12, 10);\nf_put_int(i1);\nf_record();\n",
-        End::Ended,
-        " 6\n",
-    ),
+    ("i1 = f_xor(12, 10);\nf_put_int(i1);\nf_record();\n", " 6\n"),
     (
         "s1 = \"abc\";\ni1 = f_len(s1);\ni2 = f_len(s2);\nf_put_int(i1);\nf_put_int(i2);\nf_record();\n",
-        End::Ended,
         " 3 0\n",
     ),
     (
         "i1 = f_index(\"hello\", \"l\");\ni2 = f_index(\"ab\", \"\");\ni3 = f_index(\"ab\", \"c\");\nf_put_int(i1);\nf_put_int(i2);\nf_put_int(i3);\nf_record();\n",
-        End::Ended,
         " 3 1 0\n",
     ),
     (
         "i1 = f_code(\"A\");\nf_put_int(i1);\nf_record();\n",
-        End::Ended,
         " 65\n",
     ),
     (
         "i1 = f_cmp(\"a\", \"a \");\ni2 = f_cmp(\"b\", \"a\");\ni3 = f_cmp(\"\", \"!\");\nf_put_int(i1);\nf_put_int(i2);\nf_put_int(i3);\nf_record();\n",
-        End::Ended,
         " 0 1 -1\n",
     ),
     (
         "b0 = f_new(4);\ni1 = f_size(b0);\ni2 = f_live(b0);\ni3 = f_live(b1);\nf_put_int(i1);\nf_put_int(i2);\nf_put_int(i3);\nf_record();\n",
-        End::Ended,
         " 4 1 0\n",
     ),
-    (
-        "i1 = f_depth();\nf_put_int(i1);\nf_record();\n",
-        End::Ended,
-        " 0\n",
-    ),
+    ("i1 = f_depth();\nf_put_int(i1);\nf_record();\n", " 0\n"),
     (
         "b0 = f_temp(2);\nb0[1] = 5;\ni1 = b0[1];\ni2 = b0[0];\nf_put_int(i1);\nf_put_int(i2);\nf_record();\n",
-        End::Ended,
         " 5 0\n",
     ),
-    (
-        "f_put_log(0);\nf_put_log(-3);\nf_record();\n",
-        End::Ended,
-        " F T\n",
-    ),
+    ("f_put_log(0);\nf_put_log(-3);\nf_record();\n", " F T\n"),
     (
         "f_put_int(1);\nf_record();\nf_record();\nf_put_int(2);\n",
-        End::Ended,
         " 1\n\n",
     ),
     (
         "i7 = k3;\nf_put_int(i7);\nf_put_int(i4000000000);\nf_record();\n",
-        End::Ended,
         " 0 0\n",
     ),
     // texts and blocks
     (
         "f_put_text(\"ab\");\nf_put_text(\"c\");\nf_put_int(1);\nf_put_text(\"d\");\nf_record();\n",
-        End::Ended,
         " abc 1 d\n",
     ),
     (
         "s1 = f_cat(\"ab\", \"cd\");\nf_put_text(s1);\nf_record();\n",
-        End::Ended,
         " abcd\n",
     ),
     (
         "s1 = f_sub(\"hello\", 2, 4);\ns2 = f_sub(s1, 3, 2);\nf_put_text(s1);\nf_put_text(s2);\nf_record();\n",
-        End::Ended,
         " ell\n",
     ),
     (
         "s1 = f_over(\"hello\", 2, \"XY\");\nf_put_text(s1);\nf_record();\n",
-        End::Ended,
         " hXYlo\n",
     ),
     (
         "s1 = f_fit(\"abc\", 5);\ns2 = f_fit(\"abc\", 2);\nf_put_text(s1);\nf_put_text(s2);\nf_record();\n",
-        End::Ended,
         " abc  ab\n",
     ),
     (
         "s1 = f_trim(\"ab  \");\nf_put_text(s1);\nf_put_text(\"|\");\nf_record();\n",
-        End::Ended,
         " ab|\n",
     ),
     (
         "s1 = f_left(\"  ab\");\nf_put_text(s1);\nf_put_text(\"|\");\nf_record();\n",
-        End::Ended,
         " ab  |\n",
     ),
     (
         "s1 = f_right(\"ab  \");\nf_put_text(s1);\nf_record();\n",
-        End::Ended,
         "   ab\n",
     ),
-    (
-        "s1 = f_chr(66);\nf_put_text(s1);\nf_record();\n",
-        End::Ended,
-        " B\n",
-    ),
+    ("s1 = f_chr(66);\nf_put_text(s1);\nf_record();\n", " B\n"),
     (
         "c0 = f_new_text(2, 3);\nc0[1] = \"xyz\";\ns1 = c0[1];\ns2 = c0[0];\nf_put_text(s1);\nf_put_text(s2);\nf_put_text(\"|\");\nf_record();\n",
-        End::Ended,
         " xyz   |\n",
     ),
     (
         "c0 = f_temp_text(1);\nc1 = f_copy_text(2);\ns1 = c0[0];\ni1 = f_len(s1);\ni2 = f_size(c1);\nf_put_int(i1);\nf_put_int(i2);\nf_record();\n",
-        End::Ended,
         " 0 2\n",
     ),
     (
         "c0 = f_new_text(1, 0);\nc1 = c0;\nc1[0] = \"q\";\nf_grow(c0, 1);\ni1 = f_size(c1);\ns1 = c0[0];\nf_put_int(i1);\nf_put_text(s1);\nf_free(c1);\ni2 = f_live(c0);\nf_put_int(i2);\nf_record();\n",
-        End::Ended,
         " 2 q 0\n",
     ),
     (
         "b0 = f_copy(2);\nb1 = b0;\nb2 = f_mark(1);\nb1[1] = 9;\nf_grow(b0, 2);\ni1 = b0[1];\ni2 = b0[3];\ni3 = f_size(b1);\nf_free(b1);\ni4 = f_live(b0);\ni5 = f_live(b2);\nf_put_int(i1);\nf_put_int(i2);\nf_put_int(i3);\nf_put_int(i4);\nf_put_int(i5);\nf_record();\n",
-        End::Ended,
         " 9 0 4 0 1\n",
     ),
     // control
     (
         "if (1) {\nf_put_int(1);\n} else {\nf_put_int(2);\n}\nif (0) {\nf_put_int(3);\n} else {\nf_put_int(4);\n}\nif (0) {\nf_put_int(5);\n}\nf_record();\n",
-        End::Ended,
         " 1 4\n",
     ),
     (
         "for (k1 = 0; k1 < 3; k1 = k1 + 1) {\nf_put_int(k1);\n}\nf_put_int(k1);\nf_record();\n",
-        End::Ended,
         " 0 1 2 3\n",
     ),
     (
         "for (k1 = 3 - 1; k1 >= 0; k1 = k1 - 1) {\nf_put_int(k1);\n}\nf_put_int(k1);\nf_record();\n",
-        End::Ended,
         " 2 1 0 -1\n",
     ),
     (
         "for (k1 = 0; k1 < 0; k1 = k1 + 1) {\nf_put_int(7);\n}\nfor (k2 = 0; k2 < k2; k2 = k2 + 1) {\nf_put_int(8);\n}\nfor (k3 = 0 - 1; k3 >= 0; k3 = k3 - 1) {\nf_put_int(9);\n}\nf_record();\n",
-        End::Ended,
         "\n",
     ),
     (
         "while (1) {\ni1 = i1 + 1;\ni2 = i1 % 2;\nif (i2) {\ncontinue;\n}\ni3 = 5 < i1;\nif (i3) {\nif (i3) {\nbreak;\n} else {\nf_stop();\n}\n}\nf_put_int(i1);\n}\nf_put_text(\"end\");\nf_record();\n",
-        End::Ended,
         " 2 4 end\n",
     ),
     (
         "for (k1 = 0; k1 < 4; k1 = k1 + 1) {\nfor (k2 = 0; k2 < 4; k2 = k2 + 1) {\ni1 = k1 < k2;\nif (0) {\n} else {\nif (i1) {\nbreak;\n}\n}\nf_put_int(k2);\n}\n}\nf_record();\n",
-        End::Ended,
         " 0 0 1 0 1 2 0 1 2 3\n",
     ),
     (
         "f_put_int(1);\nf_record();\nreturn;\nf_put_int(2);\nf_record();\n",
-        End::Ended,
         " 1\n",
     ),
     (
         "if (1) {\nwhile (1) {\nf_put_int(1);\nf_record();\nf_stop();\n}\n}\n",
-        End::Ended,
         " 1\n",
     ),
     (
         "i0 = 2;\nfor (k1 = 0; k1 < i0; k1 = k1 + 1) {\ni0 = 4 - k1;\nf_put_int(k1);\n}\nf_record();\n",
-        End::Ended,
         " 0 1 2\n",
     ),
 ];
@@ -302,25 +237,21 @@ fn each_row_is_obeyed(rt: HostRuntime) -> Result<(), Fail> {
     Ok(())
 }
 
-const INPUT: [(&str, End, &str); 4] = [
+const INPUT: [(&str, &str); 4] = [
     (
         "i1 = f_take(0);\ni2 = f_take(1);\ni3 = f_look(1);\nf_put_int(i1);\nf_put_int(i2);\nf_put_int(i3);\nf_record();\n",
-        End::Ended,
         " 12 -5 2\n",
     ),
     (
         "f_skip();\ni1 = f_take(0);\ni2 = f_look(1);\ni3 = f_more();\nf_put_int(i1);\nf_put_int(i2);\nf_put_int(i3);\nf_record();\n",
-        End::Ended,
         " 7 1 1\n",
     ),
     (
         "f_skip();\nf_skip();\nf_skip();\ni1 = f_more();\nf_put_int(i1);\nf_record();\n",
-        End::Ended,
         " 0\n",
     ),
     (
         "i1 = f_look(0);\ni2 = f_look(0);\ni3 = f_take(0);\nf_put_int(i1);\nf_put_int(i2);\nf_put_int(i3);\nf_record();\n",
-        End::Ended,
         " 0 0 12\n",
     ),
 ];
@@ -337,13 +268,12 @@ fn input_is_taken(rt: HostRuntime) -> Result<(), Fail> {
 pub const FUNCTIONS: &str =
     "void f1(i0, s1, b2, c3) {\ni4 = f_depth();\nb2[0] = i0;\nc3[0] = s1;\nb5 = f_new(1);\nb2 = b5;\nf_put_int(i4);\nf_put_int(i9);\ni0 = 100;\n}\nvoid f2(i0) {\ni1 = i0 < 1;\nif (i1) {\nreturn;\n}\nf_put_int(i0);\ni2 = i0 - 1;\nf2(i2);\n}\nvoid f3() {\nf_at(9);\nf_fault(2);\n}\nvoid f4(b0) {\n}\nvoid f5() {\nwhile (1) {\nf_stop();\n}\n}\n";
 
-const CALLS: [(&str, End, &str); 2] = [
+const CALLS: [(&str, &str); 2] = [
     (
         "i0 = 7;\nb0 = f_new(1);\nc0 = f_new_text(1, 1);\nf1(i0, \"xy\", b0, c0);\ni1 = b0[0];\ns1 = c0[0];\nf_put_int(i0);\nf_put_int(i1);\nf_put_text(s1);\nf_record();\nf2(3);\nf_record();\n",
-        End::Ended,
         " 1 0 7 7 xy\n 3 2 1\n",
     ),
-    ("f5();\nf_put_int(1);\nf_record();\n", End::Ended, ""),
+    ("f5();\nf_put_int(1);\nf_record();\n", ""),
 ];
 
 #[test]
@@ -352,44 +282,50 @@ fn functions_are_called(rt: HostRuntime) -> Result<(), Fail> {
     Ok(())
 }
 
-const FAULTS: [(&str, End, &str); 4] = [
-    (
-        "f_fault(1);\n",
-        End::Fault {
-            kind: FaultKind::ZeroDivide,
-            line: Line(0),
-        },
-        "",
-    ),
-    (
-        "f_at(3);\nf_at(4);\nf_fault(15);\n",
-        End::Fault {
-            kind: FaultKind::DummyShape,
-            line: Line(4),
-        },
-        "",
-    ),
-    (
-        "f_at(3);\nf3();\n",
-        End::Fault {
-            kind: FaultKind::Bounds,
-            line: Line(9),
-        },
-        "",
-    ),
-    (
-        "f_at(5);\nf2(0);\nf_fault(7);\n",
-        End::Fault {
-            kind: FaultKind::TooLarge,
-            line: Line(5),
-        },
-        "",
-    ),
+/// The lines of a main function, and the number and the line of the fault that they come to.
+const FAULTS: [(&str, u8, u32); 4] = [
+    ("f_fault(1);\n", 1, 0),
+    ("f_at(3);\nf_at(4);\nf_fault(15);\n", 15, 4),
+    ("f_at(3);\nf3();\n", 2, 9),
+    ("f_at(5);\nf2(0);\nf_fault(7);\n", 7, 5),
 ];
+
+/// What a main function comes to, where nothing is written before.
+fn silent_end(alloc: Global, main: &str, input: &[u8]) -> Result<Option<End>, Fail> {
+    let text = text_of(alloc, main, FUNCTIONS)?;
+    let mut machine = machine_of(alloc, text.as_slice(), input)?;
+    let mut sink = MemorySink::new(alloc, Vec::new(alloc), 2);
+    let end = machine.run(PLENTY, &mut sink);
+    Ok(only_if(sink.written().is_empty(), end))
+}
+
+fn only_if(silent: bool, end: End) -> Option<End> {
+    if silent { Some(end) } else { None }
+}
+
+/// The number and the line of a fault, or zeros for another end.
+fn fault_of(end: Option<End>) -> (u8, u32) {
+    match end {
+        Some(End::Fault { kind, line }) => (kind.number(), line.0),
+        _ => (0, 0),
+    }
+}
+
+fn first_not_faulted(
+    alloc: Global,
+    cases: &[(&'static str, u8, u32)],
+) -> Result<Option<&'static str>, Fail> {
+    for (main, number, line) in cases {
+        if fault_of(silent_end(alloc, *main, b"")?) != (*number, *line) {
+            return Ok(Some(*main));
+        }
+    }
+    Ok(None)
+}
 
 #[test]
 fn a_fault_has_the_line_of_its_call(rt: HostRuntime) -> Result<(), Fail> {
-    assert_eq!(rt; first_wrong(rt.alloc(), &FAULTS, FUNCTIONS, "")?, None);
+    assert_eq!(rt; first_not_faulted(rt.alloc(), &FAULTS)?, None);
     Ok(())
 }
 
@@ -431,15 +367,11 @@ const STUCK: [(&str, u8); 30] = [
     ("f99(b0);\n", 2),
 ];
 
-/// The number of the stuck state that a main function comes to, before anything is written, or 0 where it comes to another
-/// end.
-fn stuck_number(alloc: Global, main: &str) -> Result<u8, Fail> {
-    let text = text_of(alloc, main, FUNCTIONS)?;
-    let mut machine = machine_of(alloc, text.as_slice(), b"x")?;
-    let mut sink = MemorySink::new(alloc, Vec::new(alloc), 2);
-    match machine.run(PLENTY, &mut sink) {
-        End::Stuck { why } if sink.written().is_empty() => Ok(why.number()),
-        _ => Ok(0),
+/// The number of a stuck state, or 0 for another end.
+fn stuck_number(end: Option<End>) -> u8 {
+    match end {
+        Some(End::Stuck { why }) => why.number(),
+        _ => 0,
     }
 }
 
@@ -449,7 +381,7 @@ fn first_not_stuck(
     cases: &[(&'static str, u8)],
 ) -> Result<Option<&'static str>, Fail> {
     for (main, number) in cases {
-        if stuck_number(alloc, *main)? != *number {
+        if stuck_number(silent_end(alloc, *main, b"x")?) != *number {
             return Ok(Some(*main));
         }
     }
@@ -462,105 +394,82 @@ fn each_stuck_state_has_its_number(rt: HostRuntime) -> Result<(), Fail> {
     Ok(())
 }
 
-const OUTSIDE_BLOCK: End = End::Stuck {
-    why: StuckState::OutsideBlock,
-};
-
-const NO_BLOCK: End = End::Stuck {
-    why: StuckState::NoBlock,
-};
-
-const ZERO_DIVISOR: End = End::Stuck {
-    why: StuckState::ZeroDivisor,
-};
-
-/// Loops of many turns over integers and cells, among them some that stop within a turn, and some with other lines.
+/// Loops of many turns over integers and cells, some with other lines among them.
 /// What they come to was found by another reader of LoopC.
-const SWEEPS: [(&str, End, &str); 16] = [
+const SWEEPS: [(&str, &str); 12] = [
     (
         "b0 = f_new(40);\nfor (k1 = 0; k1 < 40; k1 = k1 + 1) {\ni0 = b0[k1];\ni0 = i0 + k1;\nb0[k1] = i0;\n}\ni1 = b0[39];\nf_put_int(i0);\nf_put_int(i1);\nf_put_int(k1);\nf_record();\n",
-        End::Ended,
         " 39 39 40\n",
     ),
     (
-        "b0 = f_new(20);\nfor (k1 = 0; k1 < 40; k1 = k1 + 1) {\nb0[k1] = 1;\n}\nf_put_int(i0);\nf_record();\n",
-        OUTSIDE_BLOCK,
-        "",
-    ),
-    (
-        "for (k1 = 0; k1 < 40; k1 = k1 + 1) {\ni1 = 20 - k1;\ni0 = 100 / i1;\n}\nf_put_int(i0);\nf_record();\n",
-        ZERO_DIVISOR,
-        "",
-    ),
-    (
         "i9 = 100;\nfor (k1 = 0; k1 < i9; k1 = k1 + 1) {\ni9 = i9 - 1;\ni0 = i0 + 1;\n}\nf_put_int(i0);\nf_put_int(i9);\nf_put_int(k1);\nf_record();\n",
-        End::Ended,
         " 50 50 50\n",
     ),
     (
         "for (k1 = 0; k1 < 30; k1 = k1 + 1) {\ni2 = k1 * 1000000007;\ni2 = f_wrap(i2);\ni3 = i3 | i2;\ni4 = i2 % 1000;\ni5 = i5 + i4;\ni6 = i4 < 0;\ni7 = i7 + i6;\ni8 = i2;\n}\nf_put_int(i2);\nf_put_int(i3);\nf_put_int(i5);\nf_put_int(i7);\nf_put_int(i8);\nf_record();\n",
-        End::Ended,
         " -1064770869 -257 149 14 -1064770869\n",
     ),
     (
         "b0 = f_new(900);\nfor (k2 = 0; k2 < 30; k2 = k2 + 1) {\ni1 = k2 * 30;\nfor (k1 = 0; k1 < k2; k1 = k1 + 1) {\ni2 = i1 + k1;\nb0[i2] = k2;\n}\n}\nfor (k1 = 0; k1 < 900; k1 = k1 + 1) {\ni3 = b0[k1];\ni4 = i4 * 7;\ni4 = i4 + i3;\ni4 = f_wrap(i4);\n}\nf_put_int(i4);\nf_put_int(k1);\nf_put_int(k2);\nf_record();\n",
-        End::Ended,
         " -440505185 900 30\n",
     ),
     (
         "for (k1 = 0; k1 < 20; k1 = k1 + 1) {\ni70000 = i70000 + k1;\ni5 = k1;\n}\nf_put_int(i70000);\nf_put_int(i5);\nf_put_int(i69999);\nf_record();\n",
-        End::Ended,
         " 190 19 0\n",
     ),
     (
         "b0 = f_new(16);\nb1 = b0;\nfor (k1 = 0; k1 < 16; k1 = k1 + 1) {\nb1[k1] = k1;\ni0 = b0[15];\ni0 = b0[k1];\ni1 = i1 + i0;\n}\nf_put_int(i1);\nf_put_int(i0);\nf_record();\n",
-        End::Ended,
         " 120 15\n",
     ),
     (
         "b0 = f_new(17);\nb0[0] = 1;\nfor (k1 = 0; k1 < 16; k1 = k1 + 1) {\ni0 = b0[k1];\ni1 = k1 + 1;\ni0 = i0 * 3;\nb0[i1] = i0;\n}\ni0 = b0[16];\nf_put_int(i0);\nf_record();\n",
-        End::Ended,
         " 43046721\n",
     ),
     (
-        "for (k1 = 0; k1 < 20; k1 = k1 + 1) {\ni0 = b0[k1];\n}\nf_put_int(i0);\nf_record();\n",
-        NO_BLOCK,
-        "",
-    ),
-    (
-        "b0 = f_new(20);\nfor (k1 = 0; k1 < 20; k1 = k1 + 1) {\nb0[k1] = k1;\nf_free(b0);\n}\n",
-        NO_BLOCK,
-        "",
-    ),
-    (
         "for (k1 = 0; k1 < 20; k1 = k1 + 1) {\ni0 = i0 + 1;\nif (i0) {\ni1 = i1 + k1;\n}\n}\nf_put_int(i0);\nf_put_int(i1);\nf_record();\n",
-        End::Ended,
         " 20 190\n",
     ),
     (
         "for (k1 = 0; k1 < 20; k1 = k1 + 1) {\n}\nf_put_int(k1);\nf_record();\n",
-        End::Ended,
         " 20\n",
     ),
     (
         "for (k1 = 0; k1 < 20; k1 = k1 + 1) {\nfor (k1 = 0; k1 < 30; k1 = k1 + 1) {\ni0 = i0 + k1;\n}\n}\nf_put_int(i0);\nf_put_int(k1);\nf_record();\n",
-        End::Ended,
         " 435 31\n",
     ),
     (
         "i0 = 9223372036854775807;\nfor (k1 = 0; k1 < 17; k1 = k1 + 1) {\ni0 = i0 + i0;\ni0 = i0 - k1;\n}\nf_put_int(i0);\nf_put_int(k1);\nf_record();\n",
-        End::Ended,
         " -262126 17\n",
     ),
     (
         "for (k1 = 0; k1 < 20; k1 = k1 + 1) {\nf_at(9);\ni1 = 15 - k1;\ni0 = i0 + i1;\n}\nf_at(3);\nfor (k1 = 0; k1 < 20; k1 = k1 + 1) {\nf_at(4);\ni0 = i0 + 1;\nf_at(5);\n}\nf_put_int(i0);\nf_record();\n",
-        End::Ended,
         " 130\n",
+    ),
+];
+
+/// The same, of which a turn has no step, and its number.
+const STUCK_SWEEPS: [(&str, u8); 4] = [
+    (
+        "b0 = f_new(20);\nfor (k1 = 0; k1 < 40; k1 = k1 + 1) {\nb0[k1] = 1;\n}\nf_put_int(i0);\nf_record();\n",
+        1,
+    ),
+    (
+        "for (k1 = 0; k1 < 40; k1 = k1 + 1) {\ni1 = 20 - k1;\ni0 = 100 / i1;\n}\nf_put_int(i0);\nf_record();\n",
+        3,
+    ),
+    (
+        "for (k1 = 0; k1 < 20; k1 = k1 + 1) {\ni0 = b0[k1];\n}\nf_put_int(i0);\nf_record();\n",
+        2,
+    ),
+    (
+        "b0 = f_new(20);\nfor (k1 = 0; k1 < 20; k1 = k1 + 1) {\nb0[k1] = k1;\nf_free(b0);\n}\n",
+        2,
     ),
 ];
 
 #[test]
 fn loops_of_many_turns_are_obeyed(rt: HostRuntime) -> Result<(), Fail> {
     assert_eq!(rt; first_wrong(rt.alloc(), &SWEEPS, "", "")?, None);
+    assert_eq!(rt; first_not_stuck(rt.alloc(), &STUCK_SWEEPS)?, None);
     Ok(())
 }
