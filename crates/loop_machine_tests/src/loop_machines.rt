@@ -33,8 +33,13 @@ pub struct Part {
     pub written: &'static [u8],
 }
 
+/// A run with so many turns more. It promises nothing, so that its callers are proved without what `run` promises.
+fn run_on(machine: &mut Machine, sink: &mut MemorySink, turns: u128) -> End {
+    machine.run(turns, sink)
+}
+
 fn is_as_told(machine: &mut Machine, sink: &mut MemorySink, part: Part) -> bool {
-    machine.run(part.turns, sink) == part.end && sink.written() == part.written
+    run_on(machine, sink, part.turns) == part.end && sink.written() == part.written
 }
 
 /// Whether the parts of a program's run come out as told, over a sink of which some puts fail, and how many did.
@@ -295,7 +300,7 @@ fn silent_end(alloc: Global, main: &str, input: &[u8]) -> Result<Option<End>, Fa
     let text = text_of(alloc, main, FUNCTIONS)?;
     let mut machine = machine_of(alloc, text.as_slice(), input)?;
     let mut sink = MemorySink::new(alloc, Vec::new(alloc), 2);
-    let end = machine.run(PLENTY, &mut sink);
+    let end = run_on(&mut machine, &mut sink, PLENTY);
     Ok(only_if(sink.written().is_empty(), end))
 }
 
