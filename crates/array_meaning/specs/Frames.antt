@@ -4,7 +4,9 @@ use Rattle.a95_base.specs.declared.scalar.Scalar.{Scalar}
 use Rattle.f95_unit.specs.Plain.{Expr, typed, Literal, Constant, Index, Named, Brackets, Unary, Binary, Constructor, Elementwise, Trim, Asked, Reduced, Rearranged, Called, Designator, at, Access, Whole, Subscripted, Subscripts, no_subscript, subscript, Subscript, One, Vector, Spans, Bound, Absent, Given, Part, AllOf, BytesOf, Items, no_item, value, loop, Arguments, no_argument, argument, Subject, Name, Of, call, Program}
 use Rattle.array_meaning.specs.State.{Variable, State, Step, Bytes, store_all}
 use Rattle.array_meaning.specs.Trees.{Passed, Caller}
-use Rattle.array_meaning.specs.Expressions.{evaluate}
+use Rattle.array_meaning.specs.Expressions.{procedure_at, evaluate}
+use Rattle.array_meaning.specs.Calls.{called}
+use Rattle.array_meaning.specs.Purity.{Refers, HasNoOut}
 
 -- ---- a variable that an expression doesn't name
 
@@ -70,13 +72,19 @@ with_variable k v s = record s { variables = slice_set s.variables k v }
 pub record Ignores {A : Type 0} (k : ℕ) (v : Variable) (m : Step A) : Type 0 where
   pub ignores : (s : State) → m (with_variable k v s) ≡ record { came = (m s).came; after = with_variable k v (m s).after }
 
-abbrev pub CallsIgnore : ℕ → Variable → Caller → Type 0
-CallsIgnore k v calls = (p line : ℕ) (actuals : List (ℕ × Passed)) → Ignores k v (calls p line actuals)
+-- a call of a procedure comes to the same whatever the variable holds
+abbrev pub CallIgnores : ℕ → Variable → Caller → ℕ → Type 0
+CallIgnores k v calls p = (line : ℕ) (actuals : List (ℕ × Passed)) → Ignores k v (calls p line actuals)
 
--- the value of an expression doesn't depend on a variable that it doesn't name
+-- the value of an expression doesn't depend on a variable that it doesn't name, if its calls don't
 abbrev pub ValuesIgnoreOthers : Type 0
-ValuesIgnoreOthers = (unit : Program) (calls : Caller) (line k : ℕ) (v : Variable) → CallsIgnore k v calls
-    → (ix : List ℤ) (e : Expr) → Avoids k e → Ignores k v (evaluate unit calls line ix e)
+ValuesIgnoreOthers = (unit : Program) (calls : Caller) (line k : ℕ) (v : Variable) (ix : List ℤ) (e : Expr)
+    → Refers (CallIgnores k v calls) e → Avoids k e → Ignores k v (evaluate unit calls line ix e)
+
+-- a procedure that modifies no dummy sees the values of its actuals, and nothing else of its caller
+abbrev pub FunctionCallsIgnore : Type 0
+FunctionCallsIgnore = (unit : Program) (depth p k : ℕ) (v : Variable) → HasNoOut (procedure_at unit p)
+    → CallIgnores k v (called unit depth) p
 
 -- ---- stores
 

@@ -1,6 +1,6 @@
 //! Laws of the meaning, for the layers above: each is the contract of a function that does nothing.
 
-ghost use Rattle.array_meaning.specs.Frames.{StoresLeaveOthers, ValuesIgnoreOthers};
+ghost use Rattle.array_meaning.specs.Frames.{FunctionCallsIgnore, StoresLeaveOthers, ValuesIgnoreOthers};
 ghost use Rattle.array_meaning.specs.Purity.{PureCallsAreStill, PureFunctionsTakeTurns};
 ghost use Rattle.array_meaning.specs.RunLaws.{MoreTurns, ValuesAreFull, ConformingIsOneShape};
 
@@ -22,9 +22,15 @@ pub fn conforming_is_one_shape()
 {}
 
 /// The value of an expression doesn't depend on a variable that it doesn't name, and evaluating it leaves that variable alone, if
-/// calls do so.
+/// the procedures that it refers to do so.
 pub fn values_ignore_others()
     ensures { ValuesIgnoreOthers }
+{}
+
+/// A call of a procedure that modifies no dummy, as of each function, comes to the same whatever a variable of the caller holds,
+/// and leaves it alone. So `values_ignore_others` is of use with the caller that a run has.
+pub fn function_calls_ignore()
+    ensures { FunctionCallsIgnore }
 {}
 
 /// A store changes its variable, and no other one, no input, no output and no turn.

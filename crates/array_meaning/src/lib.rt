@@ -14,6 +14,6 @@ mod laws;
 
 pub use examples::examples_rows;
 pub use laws::{
-    conforming_is_one_shape, more_turns, pure_calls, stores_leave_others, values_are_full,
-    values_ignore_others,
+    conforming_is_one_shape, function_calls_ignore, more_turns, pure_calls, stores_leave_others,
+    values_are_full, values_ignore_others,
 };
