@@ -18,3 +18,8 @@ pub mod FaultsTwoRows
 pub mod FaultsThreeRows
 pub mod FaultsFourRows
 pub mod DepthRows
+pub mod OrderOneRows
+pub mod OrderTwoRows
+pub mod LimitsRows
+pub mod SourcesOneRows
+pub mod SourcesTwoRows

@@ -48,7 +48,9 @@ BracketsPassAValue = Comes brackets_pass_a_value ([]) 100 (ended ((num 6 ∷ [])
 --       subroutine step(w)
 --         integer, intent(inout) :: w(:,:)
 --         integer :: n(size(w,1), size(w,2))
---         n = cshift(w,1,1) + cshift(w,-1,1) + cshift(w,1,2) + cshift(w,-1,2) + cshift(cshift(w,1,1),1,2) + cshift(cshift(w,1,1),-1,2) + cshift(cshift(w,-1,1),1,2) + cshift(cshift(w,-1,1),-1,2)
+--         n = cshift(w,1,1) + cshift(w,-1,1) + cshift(w,1,2) + cshift(w,-1,2) &
+--           + cshift(cshift(w,1,1),1,2) + cshift(cshift(w,1,1),-1,2) &
+--           + cshift(cshift(w,-1,1),1,2) + cshift(cshift(w,-1,1),-1,2)
 --         where (n == 3)
 --           w = 1
 --         elsewhere (n /= 2)
@@ -69,14 +71,14 @@ BracketsPassAValue = Comes brackets_pass_a_value ([]) 100 (ended ((num 6 ∷ [])
 unfoldable pub blinker : Program
 blinker = program
     ([])
-    (procedure 14 false false false
-    (entity 16 declared.Integer (Explicit (span Absent (int 5) ∷ span Absent (int 5) ∷ [])) role.Own None ∷ entity 16
+    (procedure 16 false false false
+    (entity 18 declared.Integer (Explicit (span Absent (int 5) ∷ span Absent (int 5) ∷ [])) role.Own None ∷ entity 18
     declared.Integer Scalars role.Own None ∷ [])
     None
-    (stmt (Assigns (assign 17 (target (ints 2) (at 0 Whole AllOf)) (int 0))) (stmt (Assigns (assign 18 (target (ints 1) (at 0
+    (stmt (Assigns (assign 19 (target (ints 2) (at 0 Whole AllOf)) (int 0))) (stmt (Assigns (assign 20 (target (ints 1) (at 0
     (Subscripted (subscript (Spans (Given (int 2)) (Given (int 4)) Absent) (subscript (One (int 3)) no_subscript))) AllOf))
-    (int 1))) (stmt (Do 19 1 (int 1) (int 2) Absent (stmt (Calls 20 (call 0 (argument 0 (typed (ints 2) (Named (at 0 Whole
-    AllOf))) no_argument))) (stmt (Print 21 ((typed (ints 2) (Named (at 0 Whole AllOf))) ∷ [])) no_stmt))) no_stmt))))
+    (int 1))) (stmt (Do 21 1 (int 1) (int 2) Absent (stmt (Calls 22 (call 0 (argument 0 (typed (ints 2) (Named (at 0 Whole
+    AllOf))) no_argument))) (stmt (Print 23 ((typed (ints 2) (Named (at 0 Whole AllOf))) ∷ [])) no_stmt))) no_stmt))))
     ((procedure 3 false false false
     (entity 4 declared.Integer (Assumed (Absent ∷ Absent ∷ [])) (role.Dummy 0 intent.InOut) None ∷ entity 5 declared.Integer
     (Explicit (span Absent (typed (ints 0) (Asked inquiry.Size (Some 1) (Name 0))) ∷ span Absent (typed (ints 0) (Asked
@@ -100,10 +102,10 @@ blinker = program
     (ints 0) (Unary unary.Minus (int 1))) no_argument)))) (argument 1 (int 1) no_argument)))))) (typed (ints 2) (Rearranged
     rearranging.Cshift (Some 2) (argument 0 (typed (ints 2) (Rearranged rearranging.Cshift (Some 1) (argument 0 (typed
     (ints 2) (Named (at 0 Whole AllOf))) (argument 1 (typed (ints 0) (Unary unary.Minus (int 1))) no_argument)))) (argument
-    1 (typed (ints 0) (Unary unary.Minus (int 1))) no_argument)))))))) (stmt (Masks (masked 7 (typed (logs 2) (Binary
-    binary.Equal (typed (ints 2) (Named (at 1 Whole AllOf))) (int 3))) (assigning (assign 8 (target (ints 2) (at 0 Whole
-    AllOf)) (int 1)) no_masked) (elsewhere 9 (Some (typed (logs 2) (Binary binary.NotEqual (typed (ints 2) (Named (at 1
-    Whole AllOf))) (int 2)))) (assigning (assign 10 (target (ints 2) (at 0 Whole AllOf)) (int 0)) no_masked) no_other)))
+    1 (typed (ints 0) (Unary unary.Minus (int 1))) no_argument)))))))) (stmt (Masks (masked 9 (typed (logs 2) (Binary
+    binary.Equal (typed (ints 2) (Named (at 1 Whole AllOf))) (int 3))) (assigning (assign 10 (target (ints 2) (at 0 Whole
+    AllOf)) (int 1)) no_masked) (elsewhere 11 (Some (typed (logs 2) (Binary binary.NotEqual (typed (ints 2) (Named (at 1
+    Whole AllOf))) (int 2)))) (assigning (assign 12 (target (ints 2) (at 0 Whole AllOf)) (int 0)) no_masked) no_other)))
     no_stmt))) ∷ [])
 
 abbrev pub Blinker : Type 0

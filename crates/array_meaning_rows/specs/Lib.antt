@@ -18,3 +18,8 @@ pub mod FaultsTwo
 pub mod FaultsThree
 pub mod FaultsFour
 pub mod Depth
+pub mod OrderOne
+pub mod OrderTwo
+pub mod Limits
+pub mod SourcesOne
+pub mod SourcesTwo

@@ -1,0 +1,40 @@
+-- What is evaluated and tested before what. Each row holds by computation.
+use Rattle.std.proofs.Common.{refl}
+use Rattle.array_meaning.proofs.Running.{running}
+use Rattle.array_meaning_rows.specs.OrderOne.{left_parts_behind_right, scalar_mask_by_itself, dot_product_place_by_place, pack_one_after_the_other, arguments_in_text_order, forall_combination_by_combination, forall_elements_before_many_one, call_tested_before_its_turn, extent_of_a_declaration_faults, LeftPartsBehindRight, ScalarMaskByItself, DotProductPlaceByPlace, PackOneAfterTheOther, ArgumentsInTextOrder, ForallCombinationByCombination, ForallElementsBeforeManyOne, CallTestedBeforeItsTurn, ExtentOfADeclarationFaults}
+
+pub left_parts_behind_right_row : LeftPartsBehindRight
+unfolding running left_parts_behind_right
+left_parts_behind_right_row = record { is = refl }
+
+pub scalar_mask_by_itself_row : ScalarMaskByItself
+unfolding running scalar_mask_by_itself
+scalar_mask_by_itself_row = record { is = refl }
+
+pub dot_product_place_by_place_row : DotProductPlaceByPlace
+unfolding running dot_product_place_by_place
+dot_product_place_by_place_row = record { is = refl }
+
+pub pack_one_after_the_other_row : PackOneAfterTheOther
+unfolding running pack_one_after_the_other
+pack_one_after_the_other_row = record { is = refl }
+
+pub arguments_in_text_order_row : ArgumentsInTextOrder
+unfolding running arguments_in_text_order
+arguments_in_text_order_row = record { is = refl }
+
+pub forall_combination_by_combination_row : ForallCombinationByCombination
+unfolding running forall_combination_by_combination
+forall_combination_by_combination_row = record { is = refl }
+
+pub forall_elements_before_many_one_row : ForallElementsBeforeManyOne
+unfolding running forall_elements_before_many_one
+forall_elements_before_many_one_row = record { is = refl }
+
+pub call_tested_before_its_turn_row : CallTestedBeforeItsTurn
+unfolding running call_tested_before_its_turn
+call_tested_before_its_turn_row = record { is = refl }
+
+pub extent_of_a_declaration_faults_row : ExtentOfADeclarationFaults
+unfolding running extent_of_a_declaration_faults
+extent_of_a_declaration_faults_row = record { is = refl }
