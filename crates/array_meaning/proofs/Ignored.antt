@@ -182,7 +182,8 @@ module _ (hidden : ℕ) (instead : Variable) where
   ignores_number h = ignores_then h (λ v. ignores_pure _)
 
   ignores_read_section : (line : ℕ) (s : Section) → s.variable ≢ hidden → Ignores hidden instead (read_section line s)
-  ignores_read_section line s h = ignores_then (ignores_variable _ h) (λ v. ignores_then (ignores_living _ _) (λ a. ignores_pure _))
+  ignores_read_section line s h = ignores_then (ignores_variable _ h) (λ v. ignores_then (ignores_living _ _)
+      (λ a. ignores_pure _))
 
   ignores_placed : (line n : ℕ) (v : Variable) (a : Array) (picked : List Picked) (part : Option (ℤ × ℤ))
       → Ignores hidden instead (placed line n v a picked part)
@@ -214,7 +215,8 @@ module _ (hidden : ℕ) (instead : Variable) where
     calls_in ix e g = calls_of Alike unit calls line ix e g
 
     mutual
-      ignores_prepare : (ix : List ℤ) (e : Expr) → Avoids hidden e → Refers Alike e → Ignores hidden instead (prepare unit calls line ix e)
+      ignores_prepare : (ix : List ℤ) (e : Expr) → Avoids hidden e → Refers Alike e
+          → Ignores hidden instead (prepare unit calls line ix e)
       ignores_prepare ix (typed f (Literal x)) h g = ignores_pure _
       ignores_prepare ix (typed f (Constant n)) h g = ignores_pure _
       ignores_prepare ix (typed f (Index k)) h g = ignores_pure _
@@ -223,11 +225,13 @@ module _ (hidden : ℕ) (instead : Variable) where
       ignores_prepare ix (typed f (Unary op e)) h g = ignores_then (ignores_prepare ix e h g) (λ t. ignores_pure _)
       ignores_prepare ix (typed f (Binary op e b)) h g = ignores_then (ignores_prepare ix e h.0 g.0)
           (λ t. ignores_then (ignores_prepare ix b h.1 g.1) (λ u. ignores_pure _))
-      ignores_prepare ix (typed f (Constructor items)) h g = ignores_then (ignores_gather ix items [] h g) (λ xs. ignores_pure _)
+      ignores_prepare ix (typed f (Constructor items)) h g = ignores_then (ignores_gather ix items [] h g)
+          (λ xs. ignores_pure _)
       ignores_prepare ix (typed f (Elementwise which es)) h g = ignores_choose _
           (ignores_then (ignores_values ix es h g) (λ vs. ignores_then (ignores_given _ _) (λ x. ignores_pure _)))
           (ignores_then (ignores_trees ix es h g) (λ ts. ignores_pure _))
-      ignores_prepare ix (typed f (Trim e)) h g = ignores_then (ignores_valued calls line (ignores_prepare ix e h g) (calls_in ix e g))
+      ignores_prepare ix (typed f (Trim e)) h g = ignores_then (ignores_valued calls line (ignores_prepare ix e h g)
+          (calls_in ix e g))
           (λ v. ignores_pure _)
       ignores_prepare ix (typed f (Asked which dim subject)) h g = ignores_then (ignores_answer ix which dim subject h g)
           (λ v. ignores_pure _)
@@ -239,91 +243,112 @@ module _ (hidden : ℕ) (instead : Variable) where
           (ignores_then (ignores_trees ix es h g.1) (λ ts. ignores_pure _))
           (ignores_then (ignores_actuals ix es h g.1) (λ vs. ignores_then (g.0 _ _) (λ v. ignores_pure _)))
 
-      ignores_trees : (ix : List ℤ) (es : Arguments) → AvoidsArguments hidden es → RefersArguments Alike es → Ignores hidden instead
+      ignores_trees : (ix : List ℤ) (es : Arguments) → AvoidsArguments hidden es → RefersArguments Alike es
+          → Ignores hidden instead
           (trees unit calls line ix es)
       ignores_trees ix no_argument h g = ignores_pure _
       ignores_trees ix (argument place e es) h g = ignores_then (ignores_prepare ix e h.0 g.0)
           (λ t. ignores_then (ignores_trees ix es h.1 g.1) (λ ts. ignores_pure _))
 
-      ignores_values : (ix : List ℤ) (es : Arguments) → AvoidsArguments hidden es → RefersArguments Alike es → Ignores hidden instead
+      ignores_values : (ix : List ℤ) (es : Arguments) → AvoidsArguments hidden es → RefersArguments Alike es
+          → Ignores hidden instead
           (values unit calls line ix es)
       ignores_values ix no_argument h g = ignores_pure _
-      ignores_values ix (argument place e es) h g = ignores_then (ignores_valued calls line (ignores_prepare ix e h.0 g.0) (calls_in ix e g.0))
+      ignores_values ix (argument place e es) h g = ignores_then (ignores_valued calls line (ignores_prepare ix e h.0 g.0)
+          (calls_in ix e g.0))
           (λ v. ignores_then (ignores_values ix es h.1 g.1) (λ vs. ignores_pure _))
 
-      ignores_actuals : (ix : List ℤ) (es : Arguments) → AvoidsArguments hidden es → RefersArguments Alike es → Ignores hidden instead
+      ignores_actuals : (ix : List ℤ) (es : Arguments) → AvoidsArguments hidden es → RefersArguments Alike es
+          → Ignores hidden instead
           (actuals unit calls line ix es)
       ignores_actuals ix no_argument h g = ignores_pure _
-      ignores_actuals ix (argument place e es) h g = ignores_then (ignores_passed calls line (ignores_prepare ix e h.0 g.0) (calls_in ix e g.0))
+      ignores_actuals ix (argument place e es) h g = ignores_then (ignores_passed calls line (ignores_prepare ix e h.0 g.0)
+          (calls_in ix e g.0))
           (λ v. ignores_then (ignores_actuals ix es h.1 g.1) (λ vs. ignores_pure _))
 
-      ignores_reduction_values : (ix : List ℤ) (which : Reduction) (es : Arguments) → AvoidsArguments hidden es → RefersArguments Alike es
+      ignores_reduction_values : (ix : List ℤ) (which : Reduction) (es : Arguments) → AvoidsArguments hidden es
+          → RefersArguments Alike es
           → Ignores hidden instead (reduction_values unit calls line ix which es)
       ignores_reduction_values ix which no_argument h g = ignores_pure _
       ignores_reduction_values ix which (argument place e no_argument) h g = ignores_then
           (ignores_valued calls line (ignores_prepare ix e h.0 g.0) (calls_in ix e g.0)) (λ v. ignores_pure _)
       ignores_reduction_values ix which (argument place e (argument other f more)) h g = ignores_choose _
-          (ignores_paired calls line place other (ignores_prepare ix e h.0 g.0) (calls_in ix e g.0) (ignores_prepare ix f h.1.0 g.1.0)
+          (ignores_paired calls line place other (ignores_prepare ix e h.0 g.0) (calls_in ix e g.0)
+          (ignores_prepare ix f h.1.0 g.1.0)
           (calls_in ix f g.1.0))
           (ignores_then (ignores_valued calls line (ignores_prepare ix e h.0 g.0) (calls_in ix e g.0))
-          (λ v. ignores_then (ignores_valued calls line (ignores_prepare ix f h.1.0 g.1.0) (calls_in ix f g.1.0)) (λ w. ignores_pure _)))
+          (λ v. ignores_then (ignores_valued calls line (ignores_prepare ix f h.1.0 g.1.0) (calls_in ix f g.1.0))
+          (λ w. ignores_pure _)))
 
-      ignores_answer : (ix : List ℤ) (which : Inquiry) (dim : Option ℕ) (subject : Subject) → AvoidsSubject hidden subject → RefersSubject Alike subject
+      ignores_answer : (ix : List ℤ) (which : Inquiry) (dim : Option ℕ) (subject : Subject) → AvoidsSubject hidden subject
+          → RefersSubject Alike subject
           → Ignores hidden instead (answer unit calls line ix which dim subject)
       ignores_answer ix which dim (Name n) h g = ignores_then (ignores_variable n h) (λ v. ignores_asked line which dim v)
       ignores_answer ix which dim (Of e) h g = ignores_then (ignores_prepare ix e h g)
           (λ t. ignores_then (ignores_given _ _) (λ extents. ignores_pure _))
 
       ignores_named : (ix : List ℤ) (d : Designator) → AvoidsDesignator hidden d → RefersDesignator Alike d
-          → Ignores hidden instead (designate unit calls line ix d >>= (λ s. read_section line s >>= (λ v. pure (Held v (Some s)))))
+          → Ignores hidden instead (designate unit calls line ix d >>= (λ s. read_section line s >>= (λ v. pure (Held v
+          (Some s)))))
       ignores_named ix (at n access part) h g = ignores_knowing (λ s. s.variable ≡ n)
           (ignores_then (ignores_variable n h.0)
           (λ v. ignores_then (ignores_living _ _) (λ a. ignores_then (ignores_pick ix _ access h.1 g.0)
-          (λ picked. ignores_then (ignores_part_bounds ix _ part h.2 g.1) (λ bounds. ignores_placed line n v a picked bounds)))))
+          (λ picked. ignores_then (ignores_part_bounds ix _ part h.2 g.1)
+          (λ bounds. ignores_placed line n v a picked bounds)))))
           (designates_own unit calls line ix n access part)
           (λ s e. ignores_then (ignores_read_section line s (rw e h.0)) (λ v. ignores_pure _))
 
-      ignores_pick : (ix : List ℤ) (bounds : List Dimension) (access : Access) → AvoidsAccess hidden access → RefersAccess Alike access
+      ignores_pick : (ix : List ℤ) (bounds : List Dimension) (access : Access) → AvoidsAccess hidden access
+          → RefersAccess Alike access
           → Ignores hidden instead (pick unit calls line ix bounds access)
       ignores_pick ix bounds Whole h g = ignores_pure _
       ignores_pick ix bounds (Subscripted ss) h g = ignores_pick_each ix bounds ss h g
 
-      ignores_pick_each : (ix : List ℤ) (bounds : List Dimension) (ss : Subscripts) → AvoidsSubscripts hidden ss → RefersSubscripts Alike ss
+      ignores_pick_each : (ix : List ℤ) (bounds : List Dimension) (ss : Subscripts) → AvoidsSubscripts hidden ss
+          → RefersSubscripts Alike ss
           → Ignores hidden instead (pick_each unit calls line ix bounds ss)
       ignores_pick_each ix bounds no_subscript h g = ignores_pure _
       ignores_pick_each ix [] (subscript s ss) h g = ignores_pure _
       ignores_pick_each ix (d ∷ bounds) (subscript s ss) h g = ignores_then (ignores_pick_one ix d s h.0 g.0)
           (λ picked. ignores_then (ignores_pick_each ix bounds ss h.1 g.1) (λ more. ignores_pure _))
 
-      ignores_pick_one : (ix : List ℤ) (d : Dimension) (s : Subscript) → AvoidsSubscript hidden s → RefersSubscript Alike s → Ignores hidden instead
+      ignores_pick_one : (ix : List ℤ) (d : Dimension) (s : Subscript) → AvoidsSubscript hidden s → RefersSubscript Alike s
+          → Ignores hidden instead
           (pick_one unit calls line ix d s)
       ignores_pick_one ix d (One e) h g = ignores_then
           (ignores_number (ignores_valued calls line (ignores_prepare ix e h g) (calls_in ix e g))) (λ i. ignores_pure _)
-      ignores_pick_one ix d (Vector e) h g = ignores_then (ignores_valued calls line (ignores_prepare ix e h g) (calls_in ix e g))
+      ignores_pick_one ix d (Vector e) h g = ignores_then (ignores_valued calls line (ignores_prepare ix e h g)
+          (calls_in ix e g))
           (λ v. ignores_pure _)
       ignores_pick_one ix d (Spans first last stride) h g = ignores_then (ignores_bound_or ix _ first h.0 g.0)
           (λ f. ignores_then (ignores_bound_or ix _ last h.1 g.1)
           (λ l. ignores_then (ignores_bound_or ix _ stride h.2 g.2) (λ s. ignores_pure _)))
 
-      ignores_bound_or : (ix : List ℤ) (absent : ℤ) (b : Bound) → AvoidsBound hidden b → RefersBound Alike b → Ignores hidden instead
+      ignores_bound_or : (ix : List ℤ) (absent : ℤ) (b : Bound) → AvoidsBound hidden b → RefersBound Alike b
+          → Ignores hidden instead
           (bound_or unit calls line ix absent b)
       ignores_bound_or ix absent Absent h g = ignores_pure _
-      ignores_bound_or ix absent (Given e) h g = ignores_number (ignores_valued calls line (ignores_prepare ix e h g) (calls_in ix e g))
+      ignores_bound_or ix absent (Given e) h g = ignores_number (ignores_valued calls line (ignores_prepare ix e h g)
+          (calls_in ix e g))
 
-      ignores_part_bounds : (ix : List ℤ) (len : ℕ) (part : Part) → AvoidsPart hidden part → RefersPart Alike part → Ignores hidden instead
+      ignores_part_bounds : (ix : List ℤ) (len : ℕ) (part : Part) → AvoidsPart hidden part → RefersPart Alike part
+          → Ignores hidden instead
           (part_bounds unit calls line ix len part)
       ignores_part_bounds ix len AllOf h g = ignores_pure _
       ignores_part_bounds ix len (BytesOf first last) h g = ignores_then (ignores_bound_or ix _ first h.0 g.0)
           (λ f. ignores_then (ignores_bound_or ix _ last h.1 g.1) (λ l. ignores_pure _))
 
-      ignores_gather : (ix : List ℤ) (items : Items) (xs : List Scalar) → AvoidsItems hidden items → RefersItems Alike items → Ignores hidden instead
+      ignores_gather : (ix : List ℤ) (items : Items) (xs : List Scalar) → AvoidsItems hidden items
+          → RefersItems Alike items → Ignores hidden instead
           (gather unit calls line ix items xs)
       ignores_gather ix no_item xs h g = ignores_pure _
-      ignores_gather ix (value e more) xs h g = ignores_then (ignores_valued calls line (ignores_prepare ix e h.0 g.0) (calls_in ix e g.0))
+      ignores_gather ix (value e more) xs h g = ignores_then (ignores_valued calls line (ignores_prepare ix e h.0 g.0)
+          (calls_in ix e g.0))
           (λ v. ignores_then (ignores_gathered line xs v) (λ ys. ignores_gather ix more ys h.1 g.1))
       ignores_gather ix (loop body first last step more) xs h g = ignores_then
           (ignores_number (ignores_valued calls line (ignores_prepare ix first h.1 g.1) (calls_in ix first g.1)))
-          (λ f. ignores_then (ignores_number (ignores_valued calls line (ignores_prepare ix last h.2 g.2) (calls_in ix last g.2)))
+          (λ f. ignores_then (ignores_number (ignores_valued calls line (ignores_prepare ix last h.2 g.2)
+          (calls_in ix last g.2)))
           (λ l. ignores_then (ignores_bound_or ix _ step h.3 g.3)
           (λ s. ignores_next (ignores_unless _ _ _)
           (ignores_then (ignores_rounds _ f s (λ i zs. ignores_gather (ix ++ i ∷ []) body zs h.0 g.0) xs)
