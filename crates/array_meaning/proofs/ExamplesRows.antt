@@ -1,7 +1,7 @@
 -- Small sources that show what acts when. Each row holds by computation.
 use Rattle.std.proofs.Common.{refl}
 use Rattle.array_meaning.proofs.Running.{running}
-use Rattle.array_meaning.specs.Examples.{shifted_section, sum_without_mask, pending_places_alone, forall_before_any_store, turns_run_out, shifts, shape_before_many_one, many_one_before_elements, ShiftedSection, SumWithoutMask, PendingPlacesAlone, ForallBeforeAnyStore, TurnsRunOut, Shifts, ShapeBeforeManyOne, ManyOneBeforeElements}
+use Rattle.array_meaning.specs.Examples.{shifted_section, sum_without_mask, pending_places_alone, forall_before_any_store, turns_run_out, shifts, shape_before_many_one, many_one_before_elements, scalar_mask_by_itself, order_of_three, ShiftedSection, SumWithoutMask, PendingPlacesAlone, ForallBeforeAnyStore, TurnsRunOut, Shifts, ShapeBeforeManyOne, ManyOneBeforeElements, ScalarMaskByItself, OrderOfThree}
 
 pub shifted_section_row : ShiftedSection
 unfolding running shifted_section
@@ -34,3 +34,11 @@ shape_before_many_one_row = record { is = refl }
 pub many_one_before_elements_row : ManyOneBeforeElements
 unfolding running many_one_before_elements
 many_one_before_elements_row = record { is = refl }
+
+pub scalar_mask_by_itself_row : ScalarMaskByItself
+unfolding running scalar_mask_by_itself
+scalar_mask_by_itself_row = record { is = refl }
+
+pub order_of_three_row : OrderOfThree
+unfolding running order_of_three
+order_of_three_row = record { is = refl }

@@ -183,7 +183,7 @@ copies_back own entities actuals = pure tt
 
 -- a function's value is what its result holds
 abbrev pub value_held_by : Scalar → Option Array → Value
-value_held_by blank None = record { extents = []; like = blank; elements = [] }
+value_held_by blank None = scalar_value blank
 value_held_by blank (Some a) = record { extents = extents_of a.bounds; like = blank; elements = a.elements }
 
 abbrev pub value_held : Variable → Value

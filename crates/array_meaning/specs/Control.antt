@@ -57,7 +57,8 @@ counted n (suc turns) i step body = do
   store_one n (scalar.Int (wrapped i))
   one_turn body (counted n turns (i +ℤ step) step body)
 
--- a DO WHILE, with as many turns at most as are left: without one it still may end, or fault
+-- a DO WHILE, with as many rounds at most as turns are left: without one it still may end, or fault. So many are enough, since
+-- each round begins a turn, and none comes back
 unfoldable pub while_true : ℕ → Step Bool → Step Flow → Step Flow
 while_true zero test body = do
   go ← test

@@ -3,12 +3,13 @@ use Rattle.std.specs.Prelude.{false, Some, None, [], ◌∷◌}
 use Rattle.a95_base.specs.declared.fault.FaultKind.TheVariants as fault
 use Rattle.f95_unit.specs.declared.operation.UnaryOp.TheVariants as unary
 use Rattle.f95_unit.specs.declared.operation.BinaryOp.TheVariants as binary
+use Rattle.f95_unit.specs.declared.operation.Elemental.TheVariants as elemental
 use Rattle.f95_unit.specs.declared.operation.Reduction.TheVariants as reduction
 use Rattle.f95_unit.specs.declared.operation.Rearranging.TheVariants as rearranging
 use Rattle.f95_unit.specs.declared.unit.DeclaredType.TheVariants as declared
 use Rattle.f95_unit.specs.declared.unit.Role.TheVariants as role
-use Rattle.f95_unit.specs.Plain.{typed, Named, Unary, Binary, Constructor, Reduced, Rearranged, at, Whole, Subscripted, no_subscript, subscript, One, Vector, Spans, Absent, Given, AllOf, no_item, value, no_argument, argument, masked, no_masked, assigning, no_other, elsewhere, Assigns, Masks, ForAll, Print, Do, no_stmt, stmt, Scalars, Explicit, Program}
-use Rattle.array_meaning.specs.Build.{ints, logs, int, index_at, target, assign, triplet, forall_over, span, entity, procedure, program, num, ended, faulted, going, Comes}
+use Rattle.f95_unit.specs.Plain.{typed, Named, Unary, Binary, Constructor, Elementwise, Reduced, Rearranged, at, Whole, Subscripted, no_subscript, subscript, One, Vector, Spans, Absent, Given, AllOf, no_item, value, no_argument, argument, masked, no_masked, assigning, no_other, elsewhere, Assigns, Masks, ForAll, Print, Do, no_stmt, stmt, Scalars, Explicit, Program}
+use Rattle.array_meaning.specs.Build.{ints, logs, texts, int, index_at, target, assign, triplet, forall_over, span, entity, procedure, program, num, ended, faulted, going, Comes}
 
 --     program p
 --     integer :: a(5)
@@ -191,3 +192,52 @@ many_one_before_elements = program
 
 abbrev pub ManyOneBeforeElements : Type 0
 ManyOneBeforeElements = Comes many_one_before_elements ([]) 100 (faulted fault.ManyOne 3 ([]))
+
+--     program p
+--     integer :: a(2), n
+--     a = (/65,300/)
+--     print *, sum(ichar(char(a)), mask = 1/n > 0)
+--     end
+unfoldable pub scalar_mask_by_itself : Program
+scalar_mask_by_itself = program
+    ([])
+    (procedure 1 false false false
+    (entity 2 declared.Integer (Explicit (span Absent (int 2) ∷ [])) role.Own None ∷ entity 2 declared.Integer Scalars
+    role.Own None ∷ [])
+    None
+    (stmt (Assigns (assign 3 (target (ints 1) (at 0 Whole AllOf)) (typed (ints 1) (Constructor (value (int 65) (value (int
+    300) no_item)))))) (stmt (Print 4 ((typed (ints 0) (Reduced reduction.Sum None (argument 0 (typed (ints 1) (Elementwise
+    elemental.Ichar (argument 0 (typed (texts 1 1) (Elementwise elemental.Char (argument 0 (typed (ints 1) (Named (at 0
+    Whole AllOf))) no_argument))) no_argument))) (argument 2 (typed (logs 0) (Binary binary.Greater (typed (ints 0) (Binary
+    binary.Divide (int 1) (typed (ints 0) (Named (at 1 Whole AllOf))))) (int 0))) no_argument)))) ∷ [])) no_stmt)))
+    ([])
+
+abbrev pub ScalarMaskByItself : Type 0
+ScalarMaskByItself = Comes scalar_mask_by_itself ([]) 100 (faulted fault.CharRange 4 ([]))
+
+--     program p
+--     print *, reshape((/1,2,3,4,5,6,7,8,9,10,11,12/), (/2,3,2/), order=(/2,3,1/))
+--     print *, reshape((/1,2,3,4,5,6,7,8,9,10,11,12/), (/2,3,2/), order=(/3,1,2/))
+--     end
+unfoldable pub order_of_three : Program
+order_of_three = program
+    ([])
+    (procedure 1 false false false
+    ([])
+    None
+    (stmt (Print 2 ((typed (ints 3) (Rearranged rearranging.Reshape None (argument 0 (typed (ints 1) (Constructor (value (int
+    1) (value (int 2) (value (int 3) (value (int 4) (value (int 5) (value (int 6) (value (int 7) (value (int 8) (value (int
+    9) (value (int 10) (value (int 11) (value (int 12) no_item)))))))))))))) (argument 1 (typed (ints 1) (Constructor
+    (value (int 2) (value (int 3) (value (int 2) no_item))))) (argument 3 (typed (ints 1) (Constructor (value (int 2)
+    (value (int 3) (value (int 1) no_item))))) no_argument))))) ∷ [])) (stmt (Print 3 ((typed (ints 3) (Rearranged
+    rearranging.Reshape None (argument 0 (typed (ints 1) (Constructor (value (int 1) (value (int 2) (value (int 3) (value
+    (int 4) (value (int 5) (value (int 6) (value (int 7) (value (int 8) (value (int 9) (value (int 10) (value (int 11)
+    (value (int 12) no_item)))))))))))))) (argument 1 (typed (ints 1) (Constructor (value (int 2) (value (int 3) (value
+    (int 2) no_item))))) (argument 3 (typed (ints 1) (Constructor (value (int 3) (value (int 1) (value (int 2) no_item)))))
+    no_argument))))) ∷ [])) no_stmt)))
+    ([])
+
+abbrev pub OrderOfThree : Type 0
+OrderOfThree = Comes order_of_three ([]) 100 (ended ((num 1 ∷ num 7 ∷ num 2 ∷ num 8 ∷ num 3 ∷ num 9 ∷ num 4 ∷ num 10 ∷ num 5
+    ∷ num 11 ∷ num 6 ∷ num 12 ∷ []) ∷ (num 1 ∷ num 3 ∷ num 5 ∷ num 7 ∷ num 9 ∷ num 11 ∷ num 2 ∷ num 4 ∷ num 6 ∷ num 8 ∷ num
+    10 ∷ num 12 ∷ []) ∷ []))

@@ -119,7 +119,7 @@ reshape_checked source shape pad order =
 abbrev pub integers_of : Value → List ℤ
 integers_of v = map integer_of v.elements
 
--- without ORDER the dimensions stand in their own
+-- without ORDER the dimensions stand in their own order
 abbrev pub order_or_own : ℕ → Bool → Value → List ℤ
 order_or_own n true order = integers_of order
 order_or_own n false order = map (λ d. pos (suc d)) (count_to n)

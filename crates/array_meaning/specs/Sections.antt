@@ -64,8 +64,8 @@ abbrev pub part_bytes : Option (ℤ × ℤ) → Bytes
 part_bytes None = None
 part_bytes (Some part) = if int_lt part.1 part.0 then Some (1, 0) else Some (unsigned_abs part.0, unsigned_abs part.1)
 
--- the part of a variable that a designator names; `addressed` where a dummy may stand for it, since it has neither a vector
--- subscript nor a substring
+-- the part of a variable that a designator names; `addressed` where it has neither a vector subscript nor a substring, so that
+-- it may overlap another actual
 pub record Section : Type 0 where
   pub variable : ℕ
   pub extents : List ℕ

@@ -1,15 +1,11 @@
 -- What is evaluated and tested before what. Each row holds by computation.
 use Rattle.std.proofs.Common.{refl}
 use Rattle.array_meaning.proofs.Running.{running}
-use Rattle.array_meaning_rows.specs.OrderOne.{left_parts_behind_right, scalar_mask_by_itself, dot_product_place_by_place, pack_one_after_the_other, arguments_in_text_order, forall_combination_by_combination, forall_elements_before_many_one, call_tested_before_its_turn, extent_of_a_declaration_faults, LeftPartsBehindRight, ScalarMaskByItself, DotProductPlaceByPlace, PackOneAfterTheOther, ArgumentsInTextOrder, ForallCombinationByCombination, ForallElementsBeforeManyOne, CallTestedBeforeItsTurn, ExtentOfADeclarationFaults}
+use Rattle.array_meaning_rows.specs.OrderOne.{left_parts_behind_right, dot_product_place_by_place, pack_one_after_the_other, arguments_in_text_order, forall_combination_by_combination, forall_elements_before_many_one, call_tested_before_its_turn, extent_of_a_declaration_faults, length_before_bounds, LeftPartsBehindRight, DotProductPlaceByPlace, PackOneAfterTheOther, ArgumentsInTextOrder, ForallCombinationByCombination, ForallElementsBeforeManyOne, CallTestedBeforeItsTurn, ExtentOfADeclarationFaults, LengthBeforeBounds}
 
 pub left_parts_behind_right_row : LeftPartsBehindRight
 unfolding running left_parts_behind_right
 left_parts_behind_right_row = record { is = refl }
-
-pub scalar_mask_by_itself_row : ScalarMaskByItself
-unfolding running scalar_mask_by_itself
-scalar_mask_by_itself_row = record { is = refl }
 
 pub dot_product_place_by_place_row : DotProductPlaceByPlace
 unfolding running dot_product_place_by_place
@@ -38,3 +34,7 @@ call_tested_before_its_turn_row = record { is = refl }
 pub extent_of_a_declaration_faults_row : ExtentOfADeclarationFaults
 unfolding running extent_of_a_declaration_faults
 extent_of_a_declaration_faults_row = record { is = refl }
+
+pub length_before_bounds_row : LengthBeforeBounds
+unfolding running length_before_bounds
+length_before_bounds_row = record { is = refl }

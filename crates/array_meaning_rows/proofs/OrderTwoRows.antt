@@ -1,11 +1,7 @@
 -- What is evaluated and tested before what. Each row holds by computation.
 use Rattle.std.proofs.Common.{refl}
 use Rattle.array_meaning.proofs.Running.{running}
-use Rattle.array_meaning_rows.specs.OrderTwo.{length_before_bounds, mask_of_another_shape, nested_mask_of_another_shape, mask_shape_before_many_one, LengthBeforeBounds, MaskOfAnotherShape, NestedMaskOfAnotherShape, MaskShapeBeforeManyOne}
-
-pub length_before_bounds_row : LengthBeforeBounds
-unfolding running length_before_bounds
-length_before_bounds_row = record { is = refl }
+use Rattle.array_meaning_rows.specs.OrderTwo.{mask_of_another_shape, nested_mask_of_another_shape, mask_shape_before_many_one, MaskOfAnotherShape, NestedMaskOfAnotherShape, MaskShapeBeforeManyOne}
 
 pub mask_of_another_shape_row : MaskOfAnotherShape
 unfolding running mask_of_another_shape

@@ -1,11 +1,7 @@
 -- Small whole sources. Each row holds by computation.
 use Rattle.std.proofs.Common.{refl}
 use Rattle.array_meaning.proofs.Running.{running}
-use Rattle.array_meaning_rows.specs.SourcesOne.{order_of_three, texts_and_truth, steps_of_four, section_past_the_end, section_too_long, section_without_stride, where_in_where, forall_reverses, forall_inverts, OrderOfThree, TextsAndTruth, StepsOfFour, SectionPastTheEnd, SectionTooLong, SectionWithoutStride, WhereInWhere, ForallReverses, ForallInverts}
-
-pub order_of_three_row : OrderOfThree
-unfolding running order_of_three
-order_of_three_row = record { is = refl }
+use Rattle.array_meaning_rows.specs.SourcesOne.{texts_and_truth, steps_of_four, section_past_the_end, section_too_long, section_without_stride, where_in_where, forall_reverses, forall_inverts, matrix_and_vector, TextsAndTruth, StepsOfFour, SectionPastTheEnd, SectionTooLong, SectionWithoutStride, WhereInWhere, ForallReverses, ForallInverts, MatrixAndVector}
 
 pub texts_and_truth_row : TextsAndTruth
 unfolding running texts_and_truth
@@ -38,3 +34,7 @@ forall_reverses_row = record { is = refl }
 pub forall_inverts_row : ForallInverts
 unfolding running forall_inverts
 forall_inverts_row = record { is = refl }
+
+pub matrix_and_vector_row : MatrixAndVector
+unfolding running matrix_and_vector
+matrix_and_vector_row = record { is = refl }

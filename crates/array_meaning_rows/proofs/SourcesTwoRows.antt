@@ -1,11 +1,7 @@
 -- Small whole sources. Each row holds by computation.
 use Rattle.std.proofs.Common.{refl}
 use Rattle.array_meaning.proofs.Running.{running}
-use Rattle.array_meaning_rows.specs.SourcesTwo.{matrix_and_vector, packed_and_padded, not_padded, backwards_through_two_calls, apart_where_none_is_modified, stop_in_a_procedure, return_in_a_loop, two_commas, carriage_returns, MatrixAndVector, PackedAndPadded, NotPadded, BackwardsThroughTwoCalls, ApartWhereNoneIsModified, StopInAProcedure, ReturnInALoop, TwoCommas, CarriageReturns}
-
-pub matrix_and_vector_row : MatrixAndVector
-unfolding running matrix_and_vector
-matrix_and_vector_row = record { is = refl }
+use Rattle.array_meaning_rows.specs.SourcesTwo.{packed_and_padded, not_padded, backwards_through_two_calls, apart_where_none_is_modified, stop_in_a_procedure, return_in_a_loop, two_commas, carriage_returns, PackedAndPadded, NotPadded, BackwardsThroughTwoCalls, ApartWhereNoneIsModified, StopInAProcedure, ReturnInALoop, TwoCommas, CarriageReturns}
 
 pub packed_and_padded_row : PackedAndPadded
 unfolding running packed_and_padded

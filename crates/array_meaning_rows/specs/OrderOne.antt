@@ -6,10 +6,11 @@ use Rattle.f95_unit.specs.declared.operation.Elemental.TheVariants as elemental
 use Rattle.f95_unit.specs.declared.operation.Reduction.TheVariants as reduction
 use Rattle.f95_unit.specs.declared.operation.Rearranging.TheVariants as rearranging
 use Rattle.f95_unit.specs.declared.unit.DeclaredType.TheVariants as declared
+use Rattle.f95_unit.specs.declared.unit.Length.TheVariants as long
 use Rattle.f95_unit.specs.declared.unit.Role.TheVariants as role
 use Rattle.f95_unit.specs.declared.unit.Intent.TheVariants as intent
 use Rattle.f95_unit.specs.Plain.{typed, Named, Binary, Constructor, Elementwise, Reduced, Rearranged, at, Whole, Subscripted, no_subscript, subscript, One, Spans, Absent, Given, AllOf, no_item, value, no_argument, argument, call, Assigns, ForAll, Calls, Print, no_stmt, stmt, Scalars, Explicit, Assumed, Program}
-use Rattle.array_meaning.specs.Build.{ints, logs, texts, int, index_at, target, assign, triplet, forall_over, span, entity, procedure, program, faulted, Comes}
+use Rattle.array_meaning.specs.Build.{ints, logs, texts, some_texts, int, index_at, target, assign, triplet, forall_over, span, entity, procedure, program, faulted, Comes}
 
 --     program p; integer :: a(3), n; a(4 + n) = mod(1, n); end
 unfoldable pub left_parts_behind_right : Program
@@ -26,28 +27,6 @@ left_parts_behind_right = program
 
 abbrev pub LeftPartsBehindRight : Type 0
 LeftPartsBehindRight = Comes left_parts_behind_right ([]) 100 (faulted fault.ZeroDivide 1 ([]))
-
---     program p
---     integer :: a(2), n
---     a = (/65,300/)
---     print *, sum(ichar(char(a)), mask = 1/n > 0)
---     end
-unfoldable pub scalar_mask_by_itself : Program
-scalar_mask_by_itself = program
-    ([])
-    (procedure 1 false false false
-    (entity 2 declared.Integer (Explicit (span Absent (int 2) ∷ [])) role.Own None ∷ entity 2 declared.Integer Scalars
-    role.Own None ∷ [])
-    None
-    (stmt (Assigns (assign 3 (target (ints 1) (at 0 Whole AllOf)) (typed (ints 1) (Constructor (value (int 65) (value (int
-    300) no_item)))))) (stmt (Print 4 ((typed (ints 0) (Reduced reduction.Sum None (argument 0 (typed (ints 1) (Elementwise
-    elemental.Ichar (argument 0 (typed (texts 1 1) (Elementwise elemental.Char (argument 0 (typed (ints 1) (Named (at 0
-    Whole AllOf))) no_argument))) no_argument))) (argument 2 (typed (logs 0) (Binary binary.Greater (typed (ints 0) (Binary
-    binary.Divide (int 1) (typed (ints 0) (Named (at 1 Whole AllOf))))) (int 0))) no_argument)))) ∷ [])) no_stmt)))
-    ([])
-
-abbrev pub ScalarMaskByItself : Type 0
-ScalarMaskByItself = Comes scalar_mask_by_itself ([]) 100 (faulted fault.CharRange 4 ([]))
 
 --     program p
 --     integer :: a(2), b(2)
@@ -214,3 +193,31 @@ extent_of_a_declaration_faults = program
 
 abbrev pub ExtentOfADeclarationFaults : Type 0
 ExtentOfADeclarationFaults = Comes extent_of_a_declaration_faults ([]) 100 (faulted fault.ZeroDivide 6 ([]))
+
+--     program p
+--     character(2) :: c(1)
+--     call s(adjustl(c), 0)
+--     contains
+--     subroutine s(x, k)
+--     integer, intent(in) :: k
+--     character(3), intent(in) :: x(1/k)
+--     print *, x
+--     end subroutine
+--     end
+unfoldable pub length_before_bounds : Program
+length_before_bounds = program
+    ([])
+    (procedure 1 false false false
+    (entity 2 (declared.Character (long.Fixed 2)) (Explicit (span Absent (int 1) ∷ [])) role.Own None ∷ [])
+    None
+    (stmt (Calls 3 (call 0 (argument 0 (typed (some_texts 1) (Elementwise elemental.Adjustl (argument 0 (typed (texts 2 1)
+    (Named (at 0 Whole AllOf))) no_argument))) (argument 1 (int 0) no_argument)))) no_stmt))
+    ((procedure 5 false false false
+    (entity 6 declared.Integer Scalars (role.Dummy 1 intent.In) None ∷ entity 7 (declared.Character (long.Fixed 3)) (Explicit
+    (span Absent (typed (ints 0) (Binary binary.Divide (int 1) (typed (ints 0) (Named (at 0 Whole AllOf))))) ∷ []))
+    (role.Dummy 0 intent.In) None ∷ [])
+    None
+    (stmt (Print 8 ((typed (texts 3 1) (Named (at 1 Whole AllOf))) ∷ [])) no_stmt)) ∷ [])
+
+abbrev pub LengthBeforeBounds : Type 0
+LengthBeforeBounds = Comes length_before_bounds ([]) 100 (faulted fault.DummyShape 3 ([]))

@@ -2,39 +2,12 @@
 use Rattle.std.specs.Prelude.{true, false, None, [], ◌∷◌}
 use Rattle.a95_base.specs.declared.fault.FaultKind.TheVariants as fault
 use Rattle.f95_unit.specs.declared.operation.BinaryOp.TheVariants as binary
-use Rattle.f95_unit.specs.declared.operation.Rearranging.TheVariants as rearranging
+use Rattle.f95_unit.specs.declared.operation.Reduction.TheVariants as reduction
 use Rattle.f95_unit.specs.declared.unit.DeclaredType.TheVariants as declared
 use Rattle.f95_unit.specs.declared.unit.Length.TheVariants as long
 use Rattle.f95_unit.specs.declared.unit.Role.TheVariants as role
-use Rattle.f95_unit.specs.Plain.{typed, Named, Binary, Constructor, Rearranged, at, Whole, Subscripted, no_subscript, subscript, One, Spans, Absent, Given, AllOf, BytesOf, no_item, value, no_argument, argument, masked, no_masked, assigning, narrowed, no_other, elsewhere, Assigns, Masks, ForAll, Print, Do, no_stmt, stmt, Scalars, Explicit, Program}
+use Rattle.f95_unit.specs.Plain.{typed, Named, Binary, Constructor, Reduced, at, Whole, Subscripted, no_subscript, subscript, One, Spans, Absent, Given, AllOf, BytesOf, no_item, value, no_argument, argument, masked, no_masked, assigning, narrowed, no_other, elsewhere, Assigns, Masks, ForAll, Print, Do, no_stmt, stmt, Scalars, Explicit, Program}
 use Rattle.array_meaning.specs.Build.{ints, logs, texts, int, text, index_at, target, assign, triplet, forall_over, span, entity, procedure, program, num, chars, truth, ended, faulted, Comes}
-
---     program p
---     print *, reshape((/1,2,3,4,5,6,7,8,9,10,11,12/), (/2,3,2/), order=(/2,3,1/))
---     print *, reshape((/1,2,3,4,5,6,7,8,9,10,11,12/), (/2,3,2/), order=(/3,1,2/))
---     end
-unfoldable pub order_of_three : Program
-order_of_three = program
-    ([])
-    (procedure 1 false false false
-    ([])
-    None
-    (stmt (Print 2 ((typed (ints 3) (Rearranged rearranging.Reshape None (argument 0 (typed (ints 1) (Constructor (value (int
-    1) (value (int 2) (value (int 3) (value (int 4) (value (int 5) (value (int 6) (value (int 7) (value (int 8) (value (int
-    9) (value (int 10) (value (int 11) (value (int 12) no_item)))))))))))))) (argument 1 (typed (ints 1) (Constructor
-    (value (int 2) (value (int 3) (value (int 2) no_item))))) (argument 3 (typed (ints 1) (Constructor (value (int 2)
-    (value (int 3) (value (int 1) no_item))))) no_argument))))) ∷ [])) (stmt (Print 3 ((typed (ints 3) (Rearranged
-    rearranging.Reshape None (argument 0 (typed (ints 1) (Constructor (value (int 1) (value (int 2) (value (int 3) (value
-    (int 4) (value (int 5) (value (int 6) (value (int 7) (value (int 8) (value (int 9) (value (int 10) (value (int 11)
-    (value (int 12) no_item)))))))))))))) (argument 1 (typed (ints 1) (Constructor (value (int 2) (value (int 3) (value
-    (int 2) no_item))))) (argument 3 (typed (ints 1) (Constructor (value (int 3) (value (int 1) (value (int 2) no_item)))))
-    no_argument))))) ∷ [])) no_stmt)))
-    ([])
-
-abbrev pub OrderOfThree : Type 0
-OrderOfThree = Comes order_of_three ([]) 100 (ended ((num 1 ∷ num 7 ∷ num 2 ∷ num 8 ∷ num 3 ∷ num 9 ∷ num 4 ∷ num 10 ∷ num 5
-    ∷ num 11 ∷ num 6 ∷ num 12 ∷ []) ∷ (num 1 ∷ num 3 ∷ num 5 ∷ num 7 ∷ num 9 ∷ num 11 ∷ num 2 ∷ num 4 ∷ num 6 ∷ num 8 ∷ num
-    10 ∷ num 12 ∷ []) ∷ []))
 
 --     program p; character(3) :: t; logical :: q; t = 'ab'; q = t == 'ab '; print *, q, t, 'c', t(2:1) // 'd'; end
 unfoldable pub texts_and_truth : Program
@@ -192,3 +165,32 @@ forall_inverts = program
 
 abbrev pub ForallInverts : Type 0
 ForallInverts = Comes forall_inverts ([]) 100 (ended ((num 3 ∷ num 1 ∷ num 2 ∷ []) ∷ []))
+
+--     program p
+--     integer :: a(2,2), v(2)
+--     a(1,:) = (/1,2/)
+--     a(2,:) = (/3,4/)
+--     v = (/5,6/)
+--     print *, matmul(a, v), dot_product(v, v), maxloc(v)
+--     end
+unfoldable pub matrix_and_vector : Program
+matrix_and_vector = program
+    ([])
+    (procedure 1 false false false
+    (entity 2 declared.Integer (Explicit (span Absent (int 2) ∷ span Absent (int 2) ∷ [])) role.Own None ∷ entity 2
+    declared.Integer (Explicit (span Absent (int 2) ∷ [])) role.Own None ∷ [])
+    None
+    (stmt (Assigns (assign 3 (target (ints 1) (at 0 (Subscripted (subscript (One (int 1)) (subscript (Spans Absent Absent
+    Absent) no_subscript))) AllOf)) (typed (ints 1) (Constructor (value (int 1) (value (int 2) no_item)))))) (stmt (Assigns
+    (assign 4 (target (ints 1) (at 0 (Subscripted (subscript (One (int 2)) (subscript (Spans Absent Absent Absent)
+    no_subscript))) AllOf)) (typed (ints 1) (Constructor (value (int 3) (value (int 4) no_item)))))) (stmt (Assigns (assign
+    5 (target (ints 1) (at 1 Whole AllOf)) (typed (ints 1) (Constructor (value (int 5) (value (int 6) no_item)))))) (stmt
+    (Print 6 ((typed (ints 1) (Reduced reduction.Matmul None (argument 0 (typed (ints 2) (Named (at 0 Whole AllOf)))
+    (argument 1 (typed (ints 1) (Named (at 1 Whole AllOf))) no_argument)))) ∷ (typed (ints 0) (Reduced reduction.DotProduct
+    None (argument 0 (typed (ints 1) (Named (at 1 Whole AllOf))) (argument 1 (typed (ints 1) (Named (at 1 Whole AllOf)))
+    no_argument)))) ∷ (typed (ints 1) (Reduced reduction.Maxloc None (argument 0 (typed (ints 1) (Named (at 1 Whole
+    AllOf))) no_argument))) ∷ [])) no_stmt)))))
+    ([])
+
+abbrev pub MatrixAndVector : Type 0
+MatrixAndVector = Comes matrix_and_vector ([]) 100 (ended ((num 17 ∷ num 39 ∷ num 61 ∷ num 2 ∷ []) ∷ []))

@@ -4,42 +4,12 @@ use Rattle.a95_base.specs.declared.fault.FaultKind.TheVariants as fault
 use Rattle.f95_unit.specs.declared.operation.UnaryOp.TheVariants as unary
 use Rattle.f95_unit.specs.declared.operation.BinaryOp.TheVariants as binary
 use Rattle.f95_unit.specs.declared.operation.Inquiry.TheVariants as inquiry
-use Rattle.f95_unit.specs.declared.operation.Reduction.TheVariants as reduction
 use Rattle.f95_unit.specs.declared.operation.Rearranging.TheVariants as rearranging
 use Rattle.f95_unit.specs.declared.unit.DeclaredType.TheVariants as declared
 use Rattle.f95_unit.specs.declared.unit.Role.TheVariants as role
 use Rattle.f95_unit.specs.declared.unit.Intent.TheVariants as intent
-use Rattle.f95_unit.specs.Plain.{typed, Named, Unary, Binary, Constructor, Asked, Reduced, Rearranged, at, Whole, Subscripted, no_subscript, subscript, One, Spans, Absent, Given, AllOf, no_item, value, no_argument, argument, Name, call, Assigns, Calls, Print, Read, If, Do, Return, Stop, no_stmt, stmt, no_branch, branch, Scalars, Explicit, Assumed, Program}
+use Rattle.f95_unit.specs.Plain.{typed, Named, Unary, Binary, Constructor, Asked, Rearranged, at, Whole, Subscripted, no_subscript, subscript, Spans, Absent, Given, AllOf, no_item, value, no_argument, argument, Name, call, Assigns, Calls, Print, Read, If, Do, Return, Stop, no_stmt, stmt, no_branch, branch, Scalars, Explicit, Assumed, Program}
 use Rattle.array_meaning.specs.Build.{ints, logs, int, target, assign, span, entity, procedure, program, num, ended, faulted, Comes}
-
---     program p
---     integer :: a(2,2), v(2)
---     a(1,:) = (/1,2/)
---     a(2,:) = (/3,4/)
---     v = (/5,6/)
---     print *, matmul(a, v), dot_product(v, v), maxloc(v)
---     end
-unfoldable pub matrix_and_vector : Program
-matrix_and_vector = program
-    ([])
-    (procedure 1 false false false
-    (entity 2 declared.Integer (Explicit (span Absent (int 2) ∷ span Absent (int 2) ∷ [])) role.Own None ∷ entity 2
-    declared.Integer (Explicit (span Absent (int 2) ∷ [])) role.Own None ∷ [])
-    None
-    (stmt (Assigns (assign 3 (target (ints 1) (at 0 (Subscripted (subscript (One (int 1)) (subscript (Spans Absent Absent
-    Absent) no_subscript))) AllOf)) (typed (ints 1) (Constructor (value (int 1) (value (int 2) no_item)))))) (stmt (Assigns
-    (assign 4 (target (ints 1) (at 0 (Subscripted (subscript (One (int 2)) (subscript (Spans Absent Absent Absent)
-    no_subscript))) AllOf)) (typed (ints 1) (Constructor (value (int 3) (value (int 4) no_item)))))) (stmt (Assigns (assign
-    5 (target (ints 1) (at 1 Whole AllOf)) (typed (ints 1) (Constructor (value (int 5) (value (int 6) no_item)))))) (stmt
-    (Print 6 ((typed (ints 1) (Reduced reduction.Matmul None (argument 0 (typed (ints 2) (Named (at 0 Whole AllOf)))
-    (argument 1 (typed (ints 1) (Named (at 1 Whole AllOf))) no_argument)))) ∷ (typed (ints 0) (Reduced reduction.DotProduct
-    None (argument 0 (typed (ints 1) (Named (at 1 Whole AllOf))) (argument 1 (typed (ints 1) (Named (at 1 Whole AllOf)))
-    no_argument)))) ∷ (typed (ints 1) (Reduced reduction.Maxloc None (argument 0 (typed (ints 1) (Named (at 1 Whole
-    AllOf))) no_argument))) ∷ [])) no_stmt)))))
-    ([])
-
-abbrev pub MatrixAndVector : Type 0
-MatrixAndVector = Comes matrix_and_vector ([]) 100 (ended ((num 17 ∷ num 39 ∷ num 61 ∷ num 2 ∷ []) ∷ []))
 
 --     program p; integer :: a(3); a = (/1,2,3/); print *, pack(a, a > 1), reshape(a, (/2,2/), pad=(/0/)), spread(a, 1, 2); end
 unfoldable pub packed_and_padded : Program
