@@ -46,7 +46,8 @@ reduced like f None a mask = Ok (scalar_value (f (chosen a mask (places a.extent
 reduced like f (Some dim) a mask = within_limit
     (by_place like (without dim a.extents) (λ p. f (chosen a mask (line_of dim a.extents p))))
 
--- sums and products wrap; of no elements they are 0 and 1, the greatest is the least integer and the least the greatest
+-- sums and products wrap, also where an operator's overflow is to be a fault; of no elements they are 0 and 1, the greatest is
+-- the least integer and the least the greatest
 abbrev pub folded : (ℤ → ℤ → ℤ) → ℤ → List Scalar → Scalar
 folded f start xs = scalar.Int (fold (λ z x. f z (integer_of x)) start xs)
 

@@ -19,6 +19,7 @@ use Rattle.array_meaning.specs.Values.{nothing, integer_of, truth_of, text_of, l
 
 -- ---- operators
 
+-- where overflow is to be a fault, that of Minus joins here, as a result like that of `binary_of`
 abbrev pub unary_of : UnaryOp → Scalar → Scalar
 unary_of unary.Plus x = x
 unary_of unary.Minus x = scalar.Int (negation_of (integer_of x))

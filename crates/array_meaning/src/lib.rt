@@ -6,7 +6,8 @@
 //! statements, `Calls` procedures, and `Run` the run of a source on an input within a number of turns.
 //!
 //! What joins later: a format is a field of PRINT, and its record's bytes are those of the edited values; another rule on
-//! overflow is a field of the unit that is handed to the operators; a greater rank changes nothing here.
+//! overflow is a field of the unit that is handed to the operators, so `element` and `whole` of `Trees` are then given the unit;
+//! a greater rank changes nothing here.
 #![tactic(auto)]
 
 mod examples;
