@@ -11,9 +11,9 @@ use Rattle.f95_unit.specs.declared.operation.Reduction.{Reduction}
 use Rattle.a95_base.specs.Lists.{Every}
 use Rattle.f95_unit.specs.Plain.{Expr, typed, Literal, Constant, Index, Named, Brackets, Unary, Binary, Constructor, Elementwise, Trim, Asked, Reduced, Rearranged, Called, Designator, at, Access, Whole, Subscripted, Subscripts, no_subscript, subscript, Subscript, One, Vector, Spans, Bound, Absent, Given, Part, AllOf, BytesOf, Items, no_item, value, loop, Arguments, no_argument, argument, Subject, Name, Of, call, Entity, Program}
 use Rattle.array_meaning.specs.Values.{Value}
-use Rattle.array_meaning.specs.State.{Dimension, Array, Variable, no_variable, State, Halt, Step, fault_at, unless, choose, given, living, turn_from, turn, variable, set_variable, store_all, inside}
+use Rattle.array_meaning.specs.State.{Dimension, Array, Variable, no_variable, State, Halt, Step, fault_at, unless, choose, given, allocated_array, turn_from, turn, variable, set_variable, store_all, inside}
 use Rattle.array_meaning.specs.Sections.{Picked, Section, placed, read_section}
-use Rattle.array_meaning.specs.Trees.{Tree, Held, Opposed, Two, Each, CallEach, Trees, no_tree, tree, Caller, element, elements, all_from, pairs_from, whole, valued, passed, paired}
+use Rattle.array_meaning.specs.Trees.{Tree, Held, UnaryOf, BinaryOf, Each, CallEach, Trees, no_tree, tree, Caller, element, elements, all_from, pairs_from, whole, valued, passed, paired}
 use Rattle.array_meaning.specs.Expressions.{number_of_value, rounds, gathered, asked, prepare, trees, values, actuals, reduction_values, answer, designate, pick, pick_each, pick_one, bound_or, part_bounds, gather, procedure_at}
 use Rattle.array_meaning.specs.Frames.{Avoids, AvoidsArguments, AvoidsSubject, AvoidsDesignator, AvoidsAccess, AvoidsSubscripts, AvoidsSubscript, AvoidsBound, AvoidsPart, AvoidsItems, with_variable, Ignores, CallIgnores, ValuesIgnoreOthers, FunctionCallsIgnore, StoresLeaveOthers}
 use Rattle.array_meaning.specs.Calls.{Actuals, is_out, body_acts, copy_back, copies_back, called}
@@ -100,10 +100,10 @@ module _ (hidden : ℕ) (instead : Variable) where
   ignores_given line (Ok a) = record { ignores = λ s. refl }
   ignores_given line (Err kind) = record { ignores = λ s. refl }
 
-  ignores_living : (line : ℕ) (held : Option Array) → Ignores hidden instead (living line held)
-  unfolding living pure stop
-  ignores_living line (Some a) = record { ignores = λ s. refl }
-  ignores_living line None = record { ignores = λ s. refl }
+  ignores_allocated : (line : ℕ) (held : Option Array) → Ignores hidden instead (allocated_array line held)
+  unfolding allocated_array pure stop
+  ignores_allocated line (Some a) = record { ignores = λ s. refl }
+  ignores_allocated line None = record { ignores = λ s. refl }
 
   ignores_variable : (n : ℕ) → n ≢ hidden → Ignores hidden instead (variable n)
   unfolding variable pure
@@ -130,8 +130,8 @@ module _ (hidden : ℕ) (instead : Variable) where
     mutual
       ignores_element : (t : Tree) (k : ℕ) → CallsIn Same t → Ignores hidden instead (element calls line t k)
       ignores_element (Held v section) k g = ignores_pure _
-      ignores_element (Opposed op t) k g = ignores_then (ignores_element t k g) (λ x. ignores_pure _)
-      ignores_element (Two op t u) k g = ignores_then (ignores_element t k g.0)
+      ignores_element (UnaryOf op t) k g = ignores_then (ignores_element t k g) (λ x. ignores_pure _)
+      ignores_element (BinaryOf op t u) k g = ignores_then (ignores_element t k g.0)
           (λ x. ignores_then (ignores_element u k g.1) (λ y. ignores_given _ _))
       ignores_element (Each which ts) k g = ignores_then (ignores_elements ts k g) (λ xs. ignores_given _ _)
       ignores_element (CallEach p x ts) k g = ignores_then (ignores_elements ts k g.1)
@@ -182,7 +182,7 @@ module _ (hidden : ℕ) (instead : Variable) where
   ignores_number h = ignores_then h (λ v. ignores_pure _)
 
   ignores_read_section : (line : ℕ) (s : Section) → s.variable ≢ hidden → Ignores hidden instead (read_section line s)
-  ignores_read_section line s h = ignores_then (ignores_variable _ h) (λ v. ignores_then (ignores_living _ _)
+  ignores_read_section line s h = ignores_then (ignores_variable _ h) (λ v. ignores_then (ignores_allocated _ _)
       (λ a. ignores_pure _))
 
   ignores_placed : (line n : ℕ) (v : Variable) (a : Array) (picked : List Picked) (part : Option (ℤ × ℤ))
@@ -203,7 +203,7 @@ module _ (hidden : ℕ) (instead : Variable) where
 
   ignores_asked : (line : ℕ) (which : Inquiry) (dim : Option ℕ) (v : Variable) → Ignores hidden instead (asked line which dim v)
   ignores_asked line inquiry.Allocated dim v = ignores_pure _
-  ignores_asked line which dim v = ignores_then (ignores_living _ _) (λ a. ignores_pure _)
+  ignores_asked line which dim v = ignores_then (ignores_allocated _ _) (λ a. ignores_pure _)
 
   -- ---- parts
 
@@ -292,7 +292,7 @@ module _ (hidden : ℕ) (instead : Variable) where
           (Some s)))))
       ignores_named ix (at n access part) h g = ignores_knowing (λ s. s.variable ≡ n)
           (ignores_then (ignores_variable n h.0)
-          (λ v. ignores_then (ignores_living _ _) (λ a. ignores_then (ignores_pick ix _ access h.1 g.0)
+          (λ v. ignores_then (ignores_allocated _ _) (λ a. ignores_then (ignores_pick ix _ access h.1 g.0)
           (λ picked. ignores_then (ignores_part_bounds ix _ part h.2 g.1)
           (λ bounds. ignores_placed line n v a picked bounds)))))
           (designates_own unit calls line ix n access part)

@@ -10,9 +10,9 @@ use Rattle.f95_unit.specs.declared.operation.Inquiry.TheVariants as inquiry
 use Rattle.f95_unit.specs.declared.operation.Reduction.{Reduction}
 use Rattle.f95_unit.specs.Plain.{Expr, typed, Literal, Constant, Index, Named, Brackets, Unary, Binary, Constructor, Elementwise, Trim, Asked, Reduced, Rearranged, Called, Designator, at, Access, Whole, Subscripted, Subscripts, no_subscript, subscript, Subscript, One, Vector, Spans, Bound, Absent, Given, Part, AllOf, BytesOf, Items, no_item, value, loop, Arguments, no_argument, argument, Subject, Name, Of, call, Program}
 use Rattle.array_meaning.specs.Values.{Value}
-use Rattle.array_meaning.specs.State.{Dimension, Array, Variable, State, Halt, Step, fault_at, unless, choose, given, living, turn_from, turn, variable}
+use Rattle.array_meaning.specs.State.{Dimension, Array, Variable, State, Halt, Step, fault_at, unless, choose, given, allocated_array, turn_from, turn, variable}
 use Rattle.array_meaning.specs.Sections.{Picked, Section, placed, read_section}
-use Rattle.array_meaning.specs.Trees.{Tree, Held, Opposed, Two, Each, CallEach, Trees, no_tree, tree, bracketed, Passed, Caller, element, elements, all_from, masked_from, pairs_from, whole, valued, passed, paired}
+use Rattle.array_meaning.specs.Trees.{Tree, Held, UnaryOf, BinaryOf, Each, CallEach, Trees, no_tree, tree, bracketed, Passed, Caller, element, elements, all_from, masked_from, pairs_from, whole, valued, passed, paired}
 use Rattle.array_meaning.specs.Expressions.{number_of_value, rounds, gathered, asked, prepare, trees, values, actuals, reduction_values, answer, designate, pick, pick_each, pick_one, bound_or, part_bounds, gather, evaluate, integer, truth}
 use Rattle.array_meaning.specs.Purity.{Refers, RefersArguments, RefersSubject, RefersDesignator, RefersAccess, RefersSubscripts, RefersSubscript, RefersBound, RefersPart, RefersItems, Changes}
 
@@ -34,8 +34,8 @@ Any a = Unit {0}
 abbrev mutual
   pub CallsIn : (ℕ → Type 0) → Tree → Type 0
   CallsIn P (Held v section) = Unit {0}
-  CallsIn P (Opposed op t) = CallsIn P t
-  CallsIn P (Two op t u) = CallsIn P t × CallsIn P u
+  CallsIn P (UnaryOf op t) = CallsIn P t
+  CallsIn P (BinaryOf op t u) = CallsIn P t × CallsIn P u
   CallsIn P (Each which ts) = CallsInAll P ts
   CallsIn P (CallEach p like ts) = P p × CallsInAll P ts
 
@@ -45,8 +45,8 @@ abbrev mutual
 
 in_brackets : (P : ℕ → Type 0) (t : Tree) → CallsIn P t → CallsIn P (bracketed t)
 in_brackets P (Held v section) h = tt
-in_brackets P (Opposed op t) h = h
-in_brackets P (Two op t u) h = h
+in_brackets P (UnaryOf op t) h = h
+in_brackets P (BinaryOf op t u) h = h
 in_brackets P (Each which ts) h = h
 in_brackets P (CallEach p like ts) h = h
 
@@ -120,10 +120,10 @@ module _ (R : Preorder) where
   keeps_given line (Ok a) = record { goes = λ s. R.same s; gives = λ s b e. tt }
   keeps_given line (Err kind) = record { goes = λ s. R.same s; gives = λ s b e. tt }
 
-  pub keeps_living : (line : ℕ) (held : Option Array) → Keeps R Any (living line held)
-  unfolding living pure stop
-  keeps_living line (Some a) = record { goes = λ s. R.same s; gives = λ s b e. tt }
-  keeps_living line None = record { goes = λ s. R.same s; gives = λ s b e. tt }
+  pub keeps_allocated : (line : ℕ) (held : Option Array) → Keeps R Any (allocated_array line held)
+  unfolding allocated_array pure stop
+  keeps_allocated line (Some a) = record { goes = λ s. R.same s; gives = λ s b e. tt }
+  keeps_allocated line None = record { goes = λ s. R.same s; gives = λ s b e. tt }
 
   pub keeps_variable : (n : ℕ) → Keeps R Any (variable n)
   unfolding variable pure
@@ -148,7 +148,7 @@ module _ (R : Preorder) where
   keeps_number h = keeps_then h (λ v p. kept _)
 
   keeps_read_section : (line : ℕ) (s : Section) → Keeps R Any (read_section line s)
-  keeps_read_section line s = keeps_then (keeps_variable _) (λ v p. keeps_then (keeps_living _ _) (λ a p. kept _))
+  keeps_read_section line s = keeps_then (keeps_variable _) (λ v p. keeps_then (keeps_allocated _ _) (λ a p. kept _))
 
   keeps_placed : (line n : ℕ) (v : Variable) (a : Array) (picked : List Picked) (part : Option (ℤ × ℤ)) → Keeps R Any
       (placed line n v a picked part)
@@ -167,7 +167,7 @@ module _ (R : Preorder) where
 
   keeps_asked : (line : ℕ) (which : Inquiry) (dim : Option ℕ) (v : Variable) → Keeps R Any (asked line which dim v)
   keeps_asked line inquiry.Allocated dim v = kept _
-  keeps_asked line which dim v = keeps_then (keeps_living _ _) (λ a p. kept _)
+  keeps_asked line which dim v = keeps_then (keeps_allocated _ _) (λ a p. kept _)
 
   -- ---- element trees
 
@@ -176,8 +176,8 @@ module _ (R : Preorder) where
     mutual
       pub keeps_element : (t : Tree) (k : ℕ) → CallsIn P t → Keeps R Any (element calls line t k)
       keeps_element (Held v section) k h = kept _
-      keeps_element (Opposed op t) k h = keeps_then (keeps_element t k h) (λ x p. kept _)
-      keeps_element (Two op t u) k h = keeps_then (keeps_element t k h.0)
+      keeps_element (UnaryOf op t) k h = keeps_then (keeps_element t k h) (λ x p. kept _)
+      keeps_element (BinaryOf op t u) k h = keeps_then (keeps_element t k h.0)
           (λ x p. keeps_then (keeps_element u k h.1) (λ y p. keeps_given _ _))
       keeps_element (Each which ts) k h = keeps_then (keeps_elements ts k h) (λ xs p. keeps_given _ _)
       keeps_element (CallEach p x ts) k h = keeps_then (keeps_elements ts k h.1)
@@ -288,7 +288,7 @@ module _ (R : Preorder) where
 
         pub keeps_designate : (ix : List ℤ) (d : Designator) → RefersDesignator P d → Keeps R Any (designate unit calls line ix d)
         keeps_designate ix (at n access part) h = keeps_then (keeps_variable n)
-            (λ v p. keeps_then (keeps_living _ _) (λ a p. keeps_then (keeps_pick ix _ access h.0)
+            (λ v p. keeps_then (keeps_allocated _ _) (λ a p. keeps_then (keeps_pick ix _ access h.0)
             (λ picked p. keeps_then (keeps_part_bounds ix _ part h.1) (λ bounds p. keeps_placed line n v a picked bounds))))
 
         keeps_pick : (ix : List ℤ) (bounds : List Dimension) (access : Access) → RefersAccess P access → Keeps R Any

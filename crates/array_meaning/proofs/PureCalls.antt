@@ -9,15 +9,15 @@ use Rattle.f95_unit.specs.declared.unit.Role.{Role}
 use Rattle.f95_unit.specs.declared.unit.Role.TheVariants as role
 use Rattle.f95_unit.specs.Plain.{Expr, Bound, Span, Allocation, Assign, Where, masked, MaskedBody, no_masked, assigning, narrowed, Others, no_other, elsewhere, Triplet, Forall, call, Stmt, Assigns, Masks, ForAll, Calls, Allocate, Deallocate, Print, Read, If, Select, Do, While, Forever, Exit, Cycle, Return, Stop, Stmts, no_stmt, stmt, Branches, no_branch, branch, Cases, no_case, case, Bounds, Scalars, Explicit, Assumed, Deferred, Entity, Procedure, Program}
 use Rattle.array_meaning.specs.Values.{Value}
-use Rattle.array_meaning.specs.State.{State, Step, Bytes, Variable, set_variable, store_all, turns_left, inside}
+use Rattle.array_meaning.specs.State.{State, Step, Substring, Variable, set_variable, store_all, turns_left, inside}
 use Rattle.array_meaning.specs.Sections.{Section}
 use Rattle.array_meaning.specs.Trees.{Tree, Passed, Caller}
 use Rattle.array_meaning.specs.Expressions.{procedure_at}
 use Rattle.array_meaning.specs.Assignments.{Control, with_truths, both, but_not, assigned, control_of, mask_truths, where_acts, masked_act, others_act, index_lists, active_of, active, one_combination, each_combination, indexed, forall_acts}
-use Rattle.array_meaning.specs.Control.{Flow, Next, Leaves, Again, Returns, behind, behind_turn, one_turn, counted, while_true, dimensions, allocates, deallocates, ends, acts, all_act, branch_acts, case_acts}
+use Rattle.array_meaning.specs.Control.{Flow, Next, Exits, Cycles, Returns, behind, behind_turn, one_turn, counted, while_true, dimensions, allocates, deallocates, ends, acts, all_act, branch_acts, case_acts}
 use Rattle.array_meaning.specs.Calls.{Actuals, passed_at, is_out, lower_bounds, bounds_act, own_acts, declaration_acts, declarations_act, initial_of, initial_acts, initials_act, body_acts, copy_back, copies_back, called}
-use Rattle.array_meaning.specs.Purity.{RefersBound, RefersMaybe, IsPure, IsPureFunction, PlainAssign, PlainWhere, PlainMasked, PlainOthers, PlainTriplet, PlainForall, PlainSpan, PlainAllocation, PlainStmt, PlainStmts, PlainBranches, PlainCases, PlainBounds, PlainEntity, KeepsPure, Still, TurnsAlone, Changes, PureCallsAreStill, PureFunctionsTakeTurns}
-use Rattle.array_meaning.proofs.Kept.{Preorder, Keeps, Any, CallsIn, keeps_then, keeps_next, keeps_choose, kept, keeps_fault, keeps_stop, keeps_unless, keeps_given, keeps_living, keeps_variable, keeps_turn, keeps_call, keeps_all, keeps_masked, keeps_prepare, keeps_actuals, keeps_designate, keeps_bound_or, keeps_evaluate, keeps_integer, keeps_truth}
+use Rattle.array_meaning.specs.Purity.{RefersBound, RefersMaybe, IsPure, IsPureFunction, PureAssign, PureWhere, PureMasked, PureOthers, PureTriplet, PureForall, PureSpan, PureAllocation, PureStmt, PureStmts, PureBranches, PureCases, PureBounds, PureEntity, KeepsPure, Still, TurnsAlone, Changes, PureCallsAreStill, PureFunctionsTakeTurns}
+use Rattle.array_meaning.proofs.Kept.{Preorder, Keeps, Any, CallsIn, keeps_then, keeps_next, keeps_choose, kept, keeps_fault, keeps_stop, keeps_unless, keeps_given, keeps_allocated, keeps_variable, keeps_turn, keeps_call, keeps_all, keeps_masked, keeps_prepare, keeps_actuals, keeps_designate, keeps_bound_or, keeps_evaluate, keeps_integer, keeps_truth}
 
 -- ---- the two relations
 
@@ -43,7 +43,7 @@ keeps_set : (n : ℕ) (v : Variable) → Keeps still Any (set_variable n v)
 unfolding set_variable pure
 keeps_set n v = record { goes = λ s. (refl, refl); gives = λ s b e. tt }
 
-keeps_store : (n : ℕ) (bytes : Bytes) (stores : List (ℕ × Scalar)) → Keeps still Any (store_all n bytes stores)
+keeps_store : (n : ℕ) (bytes : Substring) (stores : List (ℕ × Scalar)) → Keeps still Any (store_all n bytes stores)
 unfolding store_all set_variable pure
 keeps_store n bytes stores = record { goes = λ s. (refl, refl); gives = λ s b e. tt }
 
@@ -55,16 +55,16 @@ keeps_turns_left h = record { goes = λ s. (h s.left).goes s; gives = λ s b e. 
 
 keeps_behind : (flow : Flow) {more : Step Flow} → Keeps still Any more → Keeps still Any (behind flow more)
 keeps_behind Next h = h
-keeps_behind (Leaves out) h = kept still _
-keeps_behind (Again out) h = kept still _
+keeps_behind (Exits out) h = kept still _
+keeps_behind (Cycles out) h = kept still _
 keeps_behind Returns h = kept still _
 
 keeps_behind_turn : (flow : Flow) {more : Step Flow} → Keeps still Any more → Keeps still Any (behind_turn flow more)
 keeps_behind_turn Next h = h
-keeps_behind_turn (Again zero) h = h
-keeps_behind_turn (Again (suc out)) h = kept still _
-keeps_behind_turn (Leaves zero) h = kept still _
-keeps_behind_turn (Leaves (suc out)) h = kept still _
+keeps_behind_turn (Cycles zero) h = h
+keeps_behind_turn (Cycles (suc out)) h = kept still _
+keeps_behind_turn (Exits zero) h = kept still _
+keeps_behind_turn (Exits (suc out)) h = kept still _
 keeps_behind_turn Returns h = kept still _
 
 keeps_one_turn : {body more : Step Flow} → Keeps still Any body → Keeps still Any more → Keeps still Any (one_turn body more)
@@ -92,7 +92,7 @@ module _ (unit : Program) (calls : Caller)
   abbrev F : ℕ → Type 0
   F = IsPureFunction unit
 
-  keeps_assigned : (control : Option Control) (a : Assign) → PlainAssign unit a → Keeps still Any (assigned unit calls control a)
+  keeps_assigned : (control : Option Control) (a : Assign) → PureAssign unit a → Keeps still Any (assigned unit calls control a)
   keeps_assigned control a h = keeps_then still (keeps_prepare still F calls goes_function a.line unit [] a.value h.0)
       (λ t p. keeps_then still (keeps_designate still F calls goes_function a.line unit [] _ h.1)
       (λ s q. keeps_next still (keeps_given still _ _)
@@ -108,19 +108,19 @@ module _ (unit : Program) (calls : Caller)
   keeps_mask line c t h = keeps_then still (keeps_masked still F calls goes_function line _ _ t h) (λ xs p. kept still _)
 
   mutual
-    keeps_where : (around : Option Control) (w : Where) → PlainWhere unit w → Keeps still Any (where_acts unit calls around w)
+    keeps_where : (around : Option Control) (w : Where) → PureWhere unit w → Keeps still Any (where_acts unit calls around w)
     keeps_where around (masked line mask body others) h = keeps_then still
         (keeps_prepare still F calls goes_function line unit [] mask h.0) (λ t p. keeps_then still (keeps_control line around t)
         (λ c q. keeps_then still (keeps_mask line c t p)
         (λ truths q. keeps_next still (keeps_masked_act (with_truths c (both c.truths truths)) body h.1)
         (keeps_others (with_truths c (but_not c.truths truths)) others h.2))))
 
-    keeps_masked_act : (c : Control) (body : MaskedBody) → PlainMasked unit body → Keeps still Any (masked_act unit calls c body)
+    keeps_masked_act : (c : Control) (body : MaskedBody) → PureMasked unit body → Keeps still Any (masked_act unit calls c body)
     keeps_masked_act c no_masked h = kept still _
     keeps_masked_act c (assigning a more) h = keeps_next still (keeps_assigned (Some c) a h.0) (keeps_masked_act c more h.1)
     keeps_masked_act c (narrowed w more) h = keeps_next still (keeps_where (Some c) w h.0) (keeps_masked_act c more h.1)
 
-    keeps_others : (pending : Control) (others : Others) → PlainOthers unit others → Keeps still Any
+    keeps_others : (pending : Control) (others : Others) → PureOthers unit others → Keeps still Any
         (others_act unit calls pending others)
     keeps_others pending no_other h = kept still _
     keeps_others pending (elsewhere line None body more) h = keeps_next still (keeps_masked_act pending body h.1)
@@ -132,7 +132,7 @@ module _ (unit : Program) (calls : Caller)
         (λ truths q. keeps_next still (keeps_masked_act (with_truths c (both c.truths truths)) body h.1)
         (keeps_others (with_truths c (but_not c.truths truths)) more h.2))))
 
-  keeps_lists : (line : ℕ) (triplets : List Triplet) → Every (PlainTriplet unit) triplets → Keeps still Any
+  keeps_lists : (line : ℕ) (triplets : List Triplet) → Every (PureTriplet unit) triplets → Keeps still Any
       (index_lists unit calls line triplets)
   unfolding index_lists
   keeps_lists line [] h = kept still _
@@ -154,7 +154,7 @@ module _ (unit : Program) (calls : Caller)
   keeps_active line None h combinations = kept still _
   keeps_active line (Some mask) h combinations = keeps_active_of line mask h combinations
 
-  keeps_combination : (all : ℕ) (a : Assign) → PlainAssign unit a → (ix : List ℤ) → Keeps still Any
+  keeps_combination : (all : ℕ) (a : Assign) → PureAssign unit a → (ix : List ℤ) → Keeps still Any
       (one_combination unit calls all a ix)
   keeps_combination all a h ix = keeps_then still (keeps_prepare still F calls goes_function a.line unit ix a.value h.0)
       (λ t p. keeps_then still (keeps_designate still F calls goes_function a.line unit ix _ h.1)
@@ -162,14 +162,14 @@ module _ (unit : Program) (calls : Caller)
       (keeps_next still (keeps_unless still _ _ _)
       (keeps_then still (keeps_all still F calls goes_function a.line _ _ t p) (λ xs q. kept still _)))))
 
-  keeps_combinations : (all : ℕ) (a : Assign) → PlainAssign unit a → (combinations : List (List ℤ)) → Keeps still Any
+  keeps_combinations : (all : ℕ) (a : Assign) → PureAssign unit a → (combinations : List (List ℤ)) → Keeps still Any
       (each_combination unit calls all a combinations)
   unfolding each_combination
   keeps_combinations all a h [] = kept still _
   keeps_combinations all a h (ix ∷ more) = keeps_then still (keeps_combination all a h ix)
       (λ stores p. keeps_then still (keeps_combinations all a h more) (λ rest p. kept still _))
 
-  keeps_indexed : (all : ℕ) (combinations : List (List ℤ)) (body : List Assign) → Every (PlainAssign unit) body
+  keeps_indexed : (all : ℕ) (combinations : List (List ℤ)) (body : List Assign) → Every (PureAssign unit) body
       → Keeps still Any (indexed unit calls all combinations body)
   unfolding indexed
   keeps_indexed all combinations [] h = kept still _
@@ -177,12 +177,12 @@ module _ (unit : Program) (calls : Caller)
       (λ stores p. keeps_next still (keeps_unless still _ _ _)
       (keeps_next still (keeps_store _ _ _) (keeps_indexed all combinations more h.1)))
 
-  keeps_forall : (f : Forall) → PlainForall unit f → Keeps still Any (forall_acts unit calls f)
+  keeps_forall : (f : Forall) → PureForall unit f → Keeps still Any (forall_acts unit calls f)
   keeps_forall f h = keeps_then still (keeps_lists _ _ h.0)
       (λ lists p. keeps_next still (keeps_unless still _ _ _)
       (keeps_then still (keeps_active _ f.mask h.1 _) (λ combinations p. keeps_indexed _ combinations _ h.2)))
 
-  keeps_dimensions : (line : ℕ) (spans : List Span) → Every (PlainSpan unit) spans → Keeps still Any
+  keeps_dimensions : (line : ℕ) (spans : List Span) → Every (PureSpan unit) spans → Keeps still Any
       (dimensions unit calls line spans)
   unfolding dimensions
   keeps_dimensions line [] h = kept still _
@@ -190,7 +190,7 @@ module _ (unit : Program) (calls : Caller)
       (λ lower p. keeps_then still (keeps_integer still F calls goes_function line unit [] _ h.0.1)
       (λ upper p. keeps_then still (keeps_dimensions line more h.1) (λ rest p. kept still _)))
 
-  keeps_allocates : (line : ℕ) (objects : List Allocation) → Every (PlainAllocation unit) objects → Keeps still Any
+  keeps_allocates : (line : ℕ) (objects : List Allocation) → Every (PureAllocation unit) objects → Keeps still Any
       (allocates unit calls line objects)
   unfolding allocates
   keeps_allocates line [] h = kept still _
@@ -202,13 +202,13 @@ module _ (unit : Program) (calls : Caller)
   unfolding deallocates
   keeps_deallocates line [] = kept still _
   keeps_deallocates line (n ∷ more) = keeps_then still (keeps_variable still n)
-      (λ v p. keeps_next still (keeps_living still _ _) (keeps_next still (keeps_set _ _) (keeps_deallocates line more)))
+      (λ v p. keeps_next still (keeps_allocated still _ _) (keeps_next still (keeps_set _ _) (keeps_deallocates line more)))
 
   keeps_ends : {m : Step (Unit {0})} → Keeps still Any m → Keeps still Any (ends unit calls m)
   keeps_ends h = keeps_next still h (kept still _)
 
   mutual
-    keeps_acts : (s : Stmt) → PlainStmt unit s → Keeps still Any (acts unit calls s)
+    keeps_acts : (s : Stmt) → PureStmt unit s → Keeps still Any (acts unit calls s)
     keeps_acts (Assigns a) h = keeps_ends (keeps_assigned None a h)
     keeps_acts (Masks w) h = keeps_ends (keeps_where None w h)
     keeps_acts (ForAll f) h = keeps_ends (keeps_forall f h)
@@ -235,18 +235,18 @@ module _ (unit : Program) (calls : Caller)
     keeps_acts (Return line) h = kept still _
     keeps_acts (Stop line) h = absurd h
 
-    keeps_all_act : (body : Stmts) → PlainStmts unit body → Keeps still Any (all_act unit calls body)
+    keeps_all_act : (body : Stmts) → PureStmts unit body → Keeps still Any (all_act unit calls body)
     keeps_all_act no_stmt h = kept still _
     keeps_all_act (stmt s more) h = keeps_then still (keeps_acts s h.0) (λ flow p. keeps_behind flow (keeps_all_act more h.1))
 
-    keeps_branches : (branches : Branches) {otherwise : Step Flow} → PlainBranches unit branches → Keeps still Any otherwise
+    keeps_branches : (branches : Branches) {otherwise : Step Flow} → PureBranches unit branches → Keeps still Any otherwise
         → Keeps still Any (branch_acts unit calls branches otherwise)
     keeps_branches no_branch h g = g
     keeps_branches (branch line e body more) h g = keeps_then still
         (keeps_truth still F calls goes_function line unit [] e h.0)
         (λ b p. keeps_choose still b (keeps_all_act body h.1) (keeps_branches more h.2 g))
 
-    keeps_cases : (x : Scalar) (cases : Cases) {otherwise : Step Flow} → PlainCases unit cases → Keeps still Any otherwise
+    keeps_cases : (x : Scalar) (cases : Cases) {otherwise : Step Flow} → PureCases unit cases → Keeps still Any otherwise
         → Keeps still Any (case_acts unit calls x cases otherwise)
     keeps_cases x no_case h g = g
     keeps_cases x (case ranges body more) h g = keeps_choose still _ (keeps_all_act body h.0) (keeps_cases x more h.1 g)
@@ -260,7 +260,7 @@ module _ (unit : Program) (calls : Caller)
   keeps_lowers line (b ∷ more) h = keeps_then still (keeps_bound_or still F calls goes_function line unit [] _ _ h.0)
       (λ l p. keeps_then still (keeps_lowers line more h.1) (λ rest p. kept still _))
 
-  keeps_bounds : (call_line line n : ℕ) (actual : Value) (bounds : Bounds) → PlainBounds unit bounds → Keeps still Any
+  keeps_bounds : (call_line line n : ℕ) (actual : Value) (bounds : Bounds) → PureBounds unit bounds → Keeps still Any
       (bounds_act unit calls call_line line n actual bounds)
   keeps_bounds call_line line n actual (Explicit spans) h = keeps_then still (keeps_dimensions line spans h)
       (λ bounds p. keeps_next still (keeps_unless still _ _ _) (keeps_then still (keeps_variable still n) (λ v p. keeps_set _ _)))
@@ -269,7 +269,7 @@ module _ (unit : Program) (calls : Caller)
   keeps_bounds call_line line n actual Scalars h = kept still _
   keeps_bounds call_line line n actual (Deferred rank) h = kept still _
 
-  keeps_own : (line n : ℕ) (of : DeclaredType) (bounds : Bounds) → PlainBounds unit bounds → Keeps still Any
+  keeps_own : (line n : ℕ) (of : DeclaredType) (bounds : Bounds) → PureBounds unit bounds → Keeps still Any
       (own_acts unit calls line n of bounds)
   keeps_own line n of (Explicit spans) h = keeps_then still (keeps_dimensions line spans h)
       (λ bounds p. keeps_next still (keeps_unless still _ _ _) (keeps_set _ _))
@@ -278,13 +278,13 @@ module _ (unit : Program) (calls : Caller)
   keeps_own line n of (Deferred rank) h = kept still _
 
   keeps_declaration : (call_line : ℕ) (actuals : Actuals) (n : ℕ) (r : Role) (of : DeclaredType) (bounds : Bounds) (line : ℕ)
-      → PlainBounds unit bounds
+      → PureBounds unit bounds
       → Keeps still Any (declaration_acts unit calls call_line actuals n r of bounds line)
   keeps_declaration call_line actuals n (role.Dummy place i) of bounds line h = keeps_next still (keeps_unless still _ _ _)
       (keeps_bounds call_line line n (passed_at actuals place).value bounds h)
   keeps_declaration call_line actuals n role.Own of bounds line h = keeps_own line n of bounds h
 
-  keeps_declarations : (call_line : ℕ) (actuals : Actuals) (n : ℕ) (entities : List Entity) → Every (PlainEntity unit) entities
+  keeps_declarations : (call_line : ℕ) (actuals : Actuals) (n : ℕ) (entities : List Entity) → Every (PureEntity unit) entities
       → Keeps still Any (declarations_act unit calls call_line actuals n entities)
   unfolding declarations_act
   keeps_declarations call_line actuals n [] h = kept still _
@@ -296,14 +296,14 @@ module _ (unit : Program) (calls : Caller)
   keeps_initial line n None h = kept still _
   keeps_initial line n (Some e) h = keeps_assigned None (initial_of unit calls line n e) (h, (tt, tt))
 
-  keeps_initials : (n : ℕ) (entities : List Entity) → Every (PlainEntity unit) entities → Keeps still Any
+  keeps_initials : (n : ℕ) (entities : List Entity) → Every (PureEntity unit) entities → Keeps still Any
       (initials_act unit calls n entities)
   unfolding initials_act
   keeps_initials n [] h = kept still _
   keeps_initials n (e ∷ more) h = keeps_next still (keeps_initial e.line n e.initial h.0.1) (keeps_initials (suc n) more h.1)
 
-  keeps_body : (call_line : ℕ) (actuals : Actuals) (q : Procedure) → Every (PlainEntity unit) q.entities
-      → PlainStmts unit q.body → Keeps still Any (body_acts unit calls call_line actuals q)
+  keeps_body : (call_line : ℕ) (actuals : Actuals) (q : Procedure) → Every (PureEntity unit) q.entities
+      → PureStmts unit q.body → Keeps still Any (body_acts unit calls call_line actuals q)
   keeps_body call_line actuals q h g = keeps_next still (keeps_declarations call_line actuals 0 q.entities h)
       (keeps_next still (keeps_initials 0 q.entities h) (keeps_next still (keeps_all_act q.body g) (kept still _)))
 

@@ -6,7 +6,7 @@ use Rattle.a95_base.specs.declared.fault.FaultKind.{FaultKind}
 use Rattle.a95_base.specs.declared.scalar.Scalar.{Scalar}
 use Rattle.a95_base.specs.Steps.{Ran, pure, stop, behind, ◌>>=◌, ◌>>◌}
 use Rattle.a95_base.specs.Outcome.{IsPrefix}
-use Rattle.array_meaning.specs.State.{State, Halt, Stopped, Faults, Waits, Step, Array, Variable, fault_at, unless, choose, given, living, turn_from, turn, turns_left, variable, set_variable, Bytes, store_all, put, unread, pass, back_to, inside}
+use Rattle.array_meaning.specs.State.{State, Halt, Stopped, Faults, OutOfTurns, Step, Array, Variable, fault_at, unless, choose, given, allocated_array, turn_from, turn, turns_left, variable, set_variable, Substring, store_all, put, unread, pass, back_to, inside}
 
 -- ---- prefixes
 
@@ -27,7 +27,7 @@ pub record Tells {A : Type 0} (m : Step A) : Type 0 where
 
 abbrev pub SameBy : {A : Type 0} → Result A Halt → State → Result A Halt → State → Type 0
 SameBy (Ok a) s came' s' = (came' ≡ Ok a) × (s' ≡ more s)
-SameBy (Err Waits) s came' s' = IsPrefix s.written s'.written
+SameBy (Err OutOfTurns) s came' s' = IsPrefix s.written s'.written
 SameBy (Err Stopped) s came' s' = (came' ≡ Err Stopped) × (s' ≡ more s)
 SameBy (Err (Faults kind line)) s came' s' = (came' ≡ Err (Faults kind line)) × (s' ≡ more s)
 
@@ -64,7 +64,7 @@ grows_behind : {A B : Type 0} (f f' : A → Step B) → ((a : A) → Grows (f a)
     → SameBy came s came' s' → Same (behind f came s) (behind f' came' s')
 unfolding behind
 grows_behind f f' g (Ok a) s came' s' h = rw (h.0, h.1) ((g a).grows s)
-grows_behind f f' g (Err Waits) s came' s' h = prefix_trans h (tells_behind f' (λ a. (g a).second) came' s')
+grows_behind f f' g (Err OutOfTurns) s came' s' h = prefix_trans h (tells_behind f' (λ a. (g a).second) came' s')
 grows_behind f f' g (Err Stopped) s came' s' h = rw (h.0, h.1) (refl, refl)
 grows_behind f f' g (Err (Faults kind line)) s came' s' h = rw (h.0, h.1) (refl, refl)
 
@@ -109,10 +109,10 @@ unfolding given pure stop
 steady_given line (Ok a) = steady_by (λ s. (refl, refl)) (λ s. prefix_refl s.written)
 steady_given line (Err kind) = steady_by (λ s. (refl, refl)) (λ s. prefix_refl s.written)
 
-pub steady_living : (line : ℕ) (held : Option Array) → Steady (living line held)
-unfolding living pure stop
-steady_living line (Some a) = steady_by (λ s. (refl, refl)) (λ s. prefix_refl s.written)
-steady_living line None = steady_by (λ s. (refl, refl)) (λ s. prefix_refl s.written)
+pub steady_allocated : (line : ℕ) (held : Option Array) → Steady (allocated_array line held)
+unfolding allocated_array pure stop
+steady_allocated line (Some a) = steady_by (λ s. (refl, refl)) (λ s. prefix_refl s.written)
+steady_allocated line None = steady_by (λ s. (refl, refl)) (λ s. prefix_refl s.written)
 
 pub steady_variable : (n : ℕ) → Steady (variable n)
 unfolding variable pure
@@ -122,7 +122,7 @@ pub steady_set : (n : ℕ) (v : Variable) → Steady (set_variable n v)
 unfolding set_variable pure
 steady_set n v = steady_by (λ s. (refl, refl)) (λ s. prefix_refl s.written)
 
-pub steady_store : (n : ℕ) (bytes : Bytes) (stores : List (ℕ × Scalar)) → Steady (store_all n bytes stores)
+pub steady_store : (n : ℕ) (bytes : Substring) (stores : List (ℕ × Scalar)) → Steady (store_all n bytes stores)
 unfolding store_all set_variable pure
 steady_store n bytes stores = steady_by (λ s. (refl, refl)) (λ s. prefix_refl s.written)
 
@@ -159,12 +159,12 @@ pub steady_turn : Steady turn
 unfolding turn
 steady_turn = steady_by (λ s. turn_at s.left s refl) (λ s. tells_turn_at s.left s)
 
-pub tells_waits : {A : Type 0} → Tells (stop {A = A} Waits)
+pub tells_waits : {A : Type 0} → Tells (stop {A = A} OutOfTurns)
 unfolding stop
 tells_waits = record { tells = λ s. prefix_refl s.written }
 
 -- a step that waits, and any step at all with one more turn
-pub grows_waits : {A : Type 0} {m : Step A} → Tells m → Grows (stop Waits) m
+pub grows_waits : {A : Type 0} {m : Step A} → Tells m → Grows (stop OutOfTurns) m
 unfolding stop
 grows_waits h = record { grows = λ s. h.tells (more s); first = record { tells = λ s. prefix_refl s.written }; second = h }
 
@@ -178,7 +178,7 @@ own_same : (callers : List Variable) (came : Result (Unit {0}) Halt) (s : State)
     (s' : State) → SameBy came s came' s'
     → Same (back_to callers (record { came = came; after = s })) (back_to callers (record { came = came'; after = s' }))
 own_same callers (Ok done) s came' s' h = rw (h.0, h.1) (refl, refl)
-own_same callers (Err Waits) s came' s' h = own_waits callers came' s s' h
+own_same callers (Err OutOfTurns) s came' s' h = own_waits callers came' s s' h
   where
     own_waits : (callers : List Variable) (came' : Result (Unit {0}) Halt) (s s' : State) → IsPrefix s.written s'.written
         → IsPrefix s.written s'.written

@@ -9,9 +9,9 @@ use Rattle.f95_unit.specs.Plain.{Expr, typed, Literal, Constant, Index, Named, B
 use Rattle.array_meaning.specs.Values.{Value}
 use Rattle.array_meaning.specs.State.{Dimension, Array, Variable, Step}
 use Rattle.array_meaning.specs.Sections.{Picked, Section, placed, read_section}
-use Rattle.array_meaning.specs.Trees.{Tree, Held, Opposed, Two, Each, CallEach, Trees, no_tree, tree, Passed, Caller, element, elements, all_from, masked_from, pairs_from, whole, valued, passed, paired}
+use Rattle.array_meaning.specs.Trees.{Tree, Held, UnaryOf, BinaryOf, Each, CallEach, Trees, no_tree, tree, Passed, Caller, element, elements, all_from, masked_from, pairs_from, whole, valued, passed, paired}
 use Rattle.array_meaning.specs.Expressions.{number_of_value, rounds, gathered, asked, prepare, trees, values, actuals, reduction_values, answer, designate, pick, pick_each, pick_one, bound_or, part_bounds, gather, evaluate, integer, truth}
-use Rattle.array_meaning.proofs.Turns.{Steady, grows_then, grows_next, steady_pure, steady_unless, steady_given, steady_living, steady_variable, steady_turn, grows_choose}
+use Rattle.array_meaning.proofs.Turns.{Steady, grows_then, grows_next, steady_pure, steady_unless, steady_given, steady_allocated, steady_variable, steady_turn, grows_choose}
 
 -- what is done to a call that is compared with itself
 abbrev pub SteadyCalls : Caller → Type 0
@@ -21,8 +21,8 @@ module _ (calls : Caller) (line : ℕ) (same : SteadyCalls calls) where
   mutual
     pub steady_element : (t : Tree) (k : ℕ) → Steady (element calls line t k)
     steady_element (Held v section) k = steady_pure _
-    steady_element (Opposed op t) k = grows_then (steady_element t k) (λ x. steady_pure _)
-    steady_element (Two op t u) k = grows_then (steady_element t k) (λ x. grows_then (steady_element u k) (λ y. steady_given _ _))
+    steady_element (UnaryOf op t) k = grows_then (steady_element t k) (λ x. steady_pure _)
+    steady_element (BinaryOf op t u) k = grows_then (steady_element t k) (λ x. grows_then (steady_element u k) (λ y. steady_given _ _))
     steady_element (Each which ts) k = grows_then (steady_elements ts k) (λ xs. steady_given _ _)
     steady_element (CallEach p x ts) k = grows_then (steady_elements ts k) (λ xs. grows_then (same _ _ _) (λ v. steady_pure _))
 
@@ -70,7 +70,7 @@ pub steady_number : {m : Step Value} → Steady m → Steady (number_of_value m)
 steady_number h = grows_then h (λ v. steady_pure _)
 
 pub steady_read_section : (line : ℕ) (s : Section) → Steady (read_section line s)
-steady_read_section line s = grows_then (steady_variable _) (λ v. grows_then (steady_living _ _) (λ a. steady_pure _))
+steady_read_section line s = grows_then (steady_variable _) (λ v. grows_then (steady_allocated _ _) (λ a. steady_pure _))
 
 pub steady_placed : (line n : ℕ) (v : Variable) (a : Array) (picked : List Picked) (part : Option (ℤ × ℤ)) → Steady
     (placed line n v a picked part)
@@ -88,7 +88,7 @@ steady_gathered line xs v = grows_next (steady_unless _ _ _) (steady_pure _)
 
 pub steady_asked : (line : ℕ) (which : Inquiry) (dim : Option ℕ) (v : Variable) → Steady (asked line which dim v)
 steady_asked line inquiry.Allocated dim v = steady_pure _
-steady_asked line which dim v = grows_then (steady_living _ _) (λ a. steady_pure _)
+steady_asked line which dim v = grows_then (steady_allocated _ _) (λ a. steady_pure _)
 
 -- ---- parts
 
@@ -151,7 +151,7 @@ module _ (unit : Program) (calls : Caller) (line : ℕ) (same : SteadyCalls call
 
     pub steady_designate : (ix : List ℤ) (d : Designator) → Steady (designate unit calls line ix d)
     steady_designate ix (at n access part) = grows_then (steady_variable n)
-        (λ v. grows_then (steady_living _ _) (λ a. grows_then (steady_pick ix _ access)
+        (λ v. grows_then (steady_allocated _ _) (λ a. grows_then (steady_pick ix _ access)
         (λ picked. grows_then (steady_part_bounds ix _ part) (λ bounds. steady_placed line n v a picked bounds))))
 
     pub steady_pick : (ix : List ℤ) (bounds : List Dimension) (access : Access) → Steady (pick unit calls line ix bounds access)

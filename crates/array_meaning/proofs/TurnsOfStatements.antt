@@ -9,17 +9,17 @@ use Rattle.f95_unit.specs.declared.unit.Role.{Role}
 use Rattle.f95_unit.specs.declared.unit.Role.TheVariants as role
 use Rattle.f95_unit.specs.Plain.{Expr, Bound, Span, Allocation, Target, Assign, Where, masked, MaskedBody, no_masked, assigning, narrowed, Others, no_other, elsewhere, Triplet, Forall, call, Stmt, Assigns, Masks, ForAll, Calls, Allocate, Deallocate, Print, Read, If, Select, Do, While, Forever, Exit, Cycle, Return, Stop, Stmts, no_stmt, stmt, Branches, no_branch, branch, Cases, no_case, case, Bounds, Scalars, Explicit, Assumed, Deferred, Entity, Procedure, Program}
 use Rattle.array_meaning.specs.Values.{Value}
-use Rattle.array_meaning.specs.State.{State, Halt, Stopped, Faults, Waits, Step, Bytes, Variable}
+use Rattle.array_meaning.specs.State.{State, Halt, Stopped, Faults, OutOfTurns, Step, Substring, Variable}
 use Rattle.array_meaning.specs.Sections.{Section}
 use Rattle.array_meaning.specs.Trees.{Tree, Caller}
 use Rattle.array_meaning.specs.Expressions.{procedure_at}
 use Rattle.array_meaning.specs.Assignments.{Control, with_truths, both, but_not, assigned, control_of, mask_truths, where_acts, masked_act, others_act, index_lists, active_of, active, one_combination, each_combination, indexed, forall_acts}
 use Rattle.array_meaning.specs.InputOutput.{taken, next_integer, read_places, skip_record, printed, prints, read_items, reads}
-use Rattle.array_meaning.specs.Control.{Flow, Next, Leaves, Again, Returns, behind, behind_turn, one_turn, counted, while_true, dimensions, allocates, deallocates, ends, acts, all_act, branch_acts, case_acts}
+use Rattle.array_meaning.specs.Control.{Flow, Next, Exits, Cycles, Returns, behind, behind_turn, one_turn, counted, while_true, dimensions, allocates, deallocates, ends, acts, all_act, branch_acts, case_acts}
 use Rattle.array_meaning.specs.Calls.{Actuals, passed_at, lower_bounds, bounds_act, own_acts, declaration_acts, declarations_act, initial_of, initial_acts, initials_act, body_acts, copy_back, copies_back, entered, called}
 use Rattle.array_meaning.specs.Run.{most_calls, start, outcome_of, run_of, main_acts, source_run}
 use Rattle.array_meaning.specs.RunLaws.{StaysBy, Stays, MoreTurns}
-use Rattle.array_meaning.proofs.Turns.{prefix_refl, prefix_trans, SameBy, Steady, Grows, grows_then, grows_next, steady_pure, steady_fault, steady_stopped, steady_unless, steady_given, steady_living, steady_variable, steady_set, steady_store, steady_put, steady_unread, steady_pass, grows_choose, steady_turn, grows_waits, tells_waits, steady_turns_left, grows_inside}
+use Rattle.array_meaning.proofs.Turns.{prefix_refl, prefix_trans, SameBy, Steady, Grows, grows_then, grows_next, steady_pure, steady_fault, steady_stopped, steady_unless, steady_given, steady_allocated, steady_variable, steady_set, steady_store, steady_put, steady_unread, steady_pass, grows_choose, steady_turn, grows_waits, tells_waits, steady_turns_left, grows_inside}
 use Rattle.array_meaning.proofs.TurnsOfExpressions.{SteadyCalls, steady_all, steady_masked, steady_prepare, steady_actuals, steady_designate, steady_bound_or, steady_evaluate, steady_integer, steady_truth}
 
 module _ (unit : Program) (calls : Caller) (same : SteadyCalls calls) where
@@ -114,7 +114,7 @@ steady_taken line NoInteger = steady_fault _ _
 steady_next_integer : (line : ℕ) (behind : Bool) → Steady (next_integer line behind)
 steady_next_integer line behind = grows_then steady_unread (λ rest. steady_taken line _)
 
-steady_read_places : (line n : ℕ) (bytes : Bytes) (behind : Bool) (places : List ℕ) → Steady
+steady_read_places : (line n : ℕ) (bytes : Substring) (behind : Bool) (places : List ℕ) → Steady
     (read_places line n bytes behind places)
 unfolding read_places
 steady_read_places line n bytes behind [] = steady_pure _
@@ -148,17 +148,17 @@ module _ (unit : Program) (calls : Caller) (line : ℕ) (same : SteadyCalls call
 
 steady_behind : (flow : Flow) {more : Step Flow} → Steady more → Steady (behind flow more)
 steady_behind Next h = h
-steady_behind (Leaves out) h = steady_pure _
-steady_behind (Again out) h = steady_pure _
+steady_behind (Exits out) h = steady_pure _
+steady_behind (Cycles out) h = steady_pure _
 steady_behind Returns h = steady_pure _
 
 grows_behind_turn : (flow : Flow) {more more' : Step Flow} → Grows more more' → Grows (behind_turn flow more)
     (behind_turn flow more')
 grows_behind_turn Next h = h
-grows_behind_turn (Again zero) h = h
-grows_behind_turn (Again (suc out)) h = steady_pure _
-grows_behind_turn (Leaves zero) h = steady_pure _
-grows_behind_turn (Leaves (suc out)) h = steady_pure _
+grows_behind_turn (Cycles zero) h = h
+grows_behind_turn (Cycles (suc out)) h = steady_pure _
+grows_behind_turn (Exits zero) h = steady_pure _
+grows_behind_turn (Exits (suc out)) h = steady_pure _
 grows_behind_turn Returns h = steady_pure _
 
 grows_turn : {body more more' : Step Flow} → Steady body → Grows more more' → Grows (one_turn body more) (one_turn body more')
@@ -203,7 +203,7 @@ module _ (unit : Program) (calls : Caller) (same : SteadyCalls calls) where
   unfolding deallocates
   steady_deallocates line [] = steady_pure _
   steady_deallocates line (n ∷ more) = grows_then (steady_variable n)
-      (λ v. grows_next (steady_living _ _) (grows_next (steady_set _ _) (steady_deallocates line more)))
+      (λ v. grows_next (steady_allocated _ _) (grows_next (steady_set _ _) (steady_deallocates line more)))
 
   steady_ends : {m : Step (Unit {0})} → Steady m → Steady (ends unit calls m)
   steady_ends h = grows_next h (steady_pure _)
@@ -352,7 +352,7 @@ same_stays : (came : Result (Unit {0}) Halt) (s : State) (came' : Result (Unit {
 same_stays (Ok done) s came' s' h = rw (h.0, h.1)
 same_stays (Err Stopped) s came' s' h = rw (h.0, h.1)
 same_stays (Err (Faults kind line)) s came' s' h = rw (h.0, h.1)
-same_stays (Err Waits) s came' s' h = h
+same_stays (Err OutOfTurns) s came' s' h = h
 
 steady_main : (unit : Program) → Steady (main_acts unit)
 steady_main unit = steady_body unit (called unit most_calls) (steady_called unit most_calls) 0 [] unit.main

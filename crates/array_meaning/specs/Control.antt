@@ -13,7 +13,7 @@ use Rattle.f95_unit.specs.declared.stmt.Range.TheVariants as range
 use Rattle.f95_unit.specs.Plain.{Span, Allocation, call, Stmt, Assigns, Masks, ForAll, Calls, Allocate, Deallocate, Print, Read, If, Select, Do, While, Forever, Exit, Cycle, Return, Stop, Stmts, no_stmt, stmt, Branches, no_branch, branch, Cases, no_case, case, Program}
 use Rattle.array_meaning.specs.Values.{nothing, only, size_of}
 use Rattle.array_meaning.specs.Scalars.{compared, is_equivalent}
-use Rattle.array_meaning.specs.State.{Dimension, dimension, extents_of, Stopped, Waits, Step, unless, choose, living, turn, turns_left, variable, set_variable, store_one, fresh}
+use Rattle.array_meaning.specs.State.{Dimension, dimension, extents_of, Stopped, OutOfTurns, Step, unless, choose, allocated_array, turn, turns_left, variable, set_variable, store_one, fresh}
 use Rattle.array_meaning.specs.Sections.{triplet_count}
 use Rattle.array_meaning.specs.Trees.{Caller}
 use Rattle.array_meaning.specs.Expressions.{evaluate, integer, truth, bound_or, actuals}
@@ -24,17 +24,17 @@ use Rattle.array_meaning.specs.InputOutput.{prints, reads}
 -- of the procedure
 pub data Flow : Type 0 where
   Next : Flow
-  Leaves : (out : ℕ) → Flow
-  Again : (out : ℕ) → Flow
+  Exits : (out : ℕ) → Flow
+  Cycles : (out : ℕ) → Flow
   Returns : Flow
 
 -- behind one turn of a DO
 abbrev pub behind_turn : Flow → Step Flow → Step Flow
 behind_turn Next more = more
-behind_turn (Again zero) more = more
-behind_turn (Again (suc out)) more = pure (Again out)
-behind_turn (Leaves zero) more = pure Next
-behind_turn (Leaves (suc out)) more = pure (Leaves out)
+behind_turn (Cycles zero) more = more
+behind_turn (Cycles (suc out)) more = pure (Cycles out)
+behind_turn (Exits zero) more = pure Next
+behind_turn (Exits (suc out)) more = pure (Exits out)
 behind_turn Returns more = pure Returns
 
 -- behind a statement of a list
@@ -62,7 +62,7 @@ counted n (suc turns) i step body = do
 unfoldable pub while_true : ℕ → Step Bool → Step Flow → Step Flow
 while_true zero test body = do
   go ← test
-  choose go (stop Waits) (pure Next)
+  choose go (stop OutOfTurns) (pure Next)
 while_true (suc k) test body = do
   go ← test
   choose go (one_turn body (while_true k test body)) (pure Next)
@@ -113,7 +113,7 @@ module _ (unit : Program) (calls : Caller) where
   deallocates line [] = pure tt
   deallocates line (n ∷ more) = do
     v ← variable n
-    living line v.held
+    allocated_array line v.held
     set_variable n (record v { held = None })
     deallocates line more
 
@@ -150,8 +150,8 @@ module _ (unit : Program) (calls : Caller) where
       counted n (triplet_count f l s) f s (all_act body)
     acts (While line e body) = turns_left (λ k. while_true k (truth unit calls line [] e) (all_act body))
     acts (Forever line body) = turns_left (λ k. while_true k (pure true) (all_act body))
-    acts (Exit line out) = pure (Leaves out)
-    acts (Cycle line out) = pure (Again out)
+    acts (Exit line out) = pure (Exits out)
+    acts (Cycle line out) = pure (Cycles out)
     acts (Return line) = pure Returns
     acts (Stop line) = stop Stopped
 

@@ -21,11 +21,11 @@ use Rattle.f95_unit.specs.declared.unit.Length.TheVariants as long
 use Rattle.f95_unit.specs.Plain.{Expr, typed, Literal, Constant, Index, Named, Brackets, Unary, Binary, Constructor, Elementwise, Trim, Asked, Reduced, Rearranged, Called, Designator, at, Access, Whole, Subscripted, Subscripts, no_subscript, subscript, Subscript, One, Vector, Spans, Bound, Absent, Given, Part, AllOf, BytesOf, Items, no_item, value, loop, Arguments, no_argument, argument, Subject, Name, Of, call, no_stmt, Entity, Procedure, Program}
 use Rattle.array_meaning.specs.Values.{Value, nothing, integer_of, truth_of, text_of, length_of, blank_of, scalar_value, vector_value, only}
 use Rattle.array_meaning.specs.Scalars.{elemental_of}
-use Rattle.array_meaning.specs.State.{Dimension, counted_from_one, Variable, Step, unless, choose, given, living, turn, variable}
+use Rattle.array_meaning.specs.State.{Dimension, counted_from_one, Variable, Step, unless, choose, given, allocated_array, turn, variable}
 use Rattle.array_meaning.specs.Sections.{Picked, Single, Listed, Stepped, triplet_count, all_picked, Section, placed, read_section}
 use Rattle.array_meaning.specs.Reductions.{inquired, reduction_of}
 use Rattle.array_meaning.specs.Rearrangements.{rearrangement_of}
-use Rattle.array_meaning.specs.Trees.{Tree, Held, Opposed, Two, Each, CallEach, Trees, no_tree, tree, held, bracketed, Passed, Caller, shape, like, valued, passed, paired}
+use Rattle.array_meaning.specs.Trees.{Tree, Held, UnaryOf, BinaryOf, Each, CallEach, Trees, no_tree, tree, held, bracketed, Passed, Caller, shape, like, valued, passed, paired}
 
 -- ---- what an expression carries
 
@@ -102,7 +102,7 @@ gathered line xs v = do
 abbrev pub asked : ℕ → Inquiry → Option ℕ → Variable → Step Value
 asked line inquiry.Allocated dim v = pure (scalar_value (scalar.Log (is_some v.held)))
 asked line which dim v = do
-  a ← living line v.held
+  a ← allocated_array line v.held
   pure (inquired which dim a.bounds v.blank)
 
 -- MATMUL evaluates its arguments one after the other; so do references with an argument that is a scalar
@@ -126,11 +126,11 @@ module _ (unit : Program) (calls : Caller) (line : ℕ) where
       pure (bracketed t)
     prepare ix (typed f (Unary op e)) = do
       t ← prepare ix e
-      pure (Opposed op t)
+      pure (UnaryOf op t)
     prepare ix (typed f (Binary op e g)) = do
       t ← prepare ix e
       u ← prepare ix g
-      pure (Two op t u)
+      pure (BinaryOf op t u)
     prepare ix (typed f (Constructor items)) = do
       xs ← gather ix items []
       pure (held (vector_value (like_facts f) xs))
@@ -218,7 +218,7 @@ module _ (unit : Program) (calls : Caller) (line : ℕ) where
     pub designate : List ℤ → Designator → Step Section
     designate ix (at n access part) = do
       v ← variable n
-      a ← living line v.held
+      a ← allocated_array line v.held
       picked ← pick ix a.bounds access
       bounds ← part_bounds ix (length_of v.blank) part
       placed line n v a picked bounds

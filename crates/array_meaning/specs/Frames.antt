@@ -2,7 +2,7 @@
 use Rattle.std.specs.Prelude.{◌≡◌, ◌≢◌, ℕ, ℤ, List, slice_index_or, slice_set}
 use Rattle.a95_base.specs.declared.scalar.Scalar.{Scalar}
 use Rattle.f95_unit.specs.Plain.{Expr, typed, Literal, Constant, Index, Named, Brackets, Unary, Binary, Constructor, Elementwise, Trim, Asked, Reduced, Rearranged, Called, Designator, at, Access, Whole, Subscripted, Subscripts, no_subscript, subscript, Subscript, One, Vector, Spans, Bound, Absent, Given, Part, AllOf, BytesOf, Items, no_item, value, loop, Arguments, no_argument, argument, Subject, Name, Of, call, Program}
-use Rattle.array_meaning.specs.State.{Variable, State, Step, Bytes, store_all}
+use Rattle.array_meaning.specs.State.{Variable, State, Step, Substring, store_all}
 use Rattle.array_meaning.specs.Trees.{Passed, Caller}
 use Rattle.array_meaning.specs.Expressions.{procedure_at, evaluate}
 use Rattle.array_meaning.specs.Calls.{called}
@@ -96,5 +96,5 @@ pub record LeavesAlone (n : ℕ) (before after : State) : Type 0 where
   pub left : after.left ≡ before.left
 
 abbrev pub StoresLeaveOthers : Type 0
-StoresLeaveOthers = (n : ℕ) (bytes : Bytes) (stores : List (ℕ × Scalar)) (s : State) → LeavesAlone n s
+StoresLeaveOthers = (n : ℕ) (bytes : Substring) (stores : List (ℕ × Scalar)) (s : State) → LeavesAlone n s
     (store_all n bytes stores s).after

@@ -7,7 +7,7 @@ use Rattle.a95_base.specs.Steps.{pure, ◌>>=◌, ◌>>◌}
 use Rattle.a95_base.specs.Record.{record_text}
 use Rattle.a95_base.specs.Input.{Reading, Integer, NoMore, NoInteger, next_value, record_length}
 use Rattle.f95_unit.specs.Plain.{Expr, Target, Program}
-use Rattle.array_meaning.specs.State.{Step, unless, fault_at, store_all, put, unread, pass, Bytes}
+use Rattle.array_meaning.specs.State.{Step, unless, fault_at, store_all, put, unread, pass, Substring}
 use Rattle.array_meaning.specs.Sections.{is_one_one}
 use Rattle.array_meaning.specs.Trees.{Caller}
 use Rattle.array_meaning.specs.Expressions.{evaluate, designate}
@@ -29,7 +29,7 @@ next_integer line behind = do
   taken line (next_value behind rest)
 
 -- integers into the places of one item; tells whether any value was read so far
-unfoldable pub read_places : ℕ → ℕ → Bytes → Bool → List ℕ → Step Bool
+unfoldable pub read_places : ℕ → ℕ → Substring → Bool → List ℕ → Step Bool
 read_places line n bytes behind [] = pure behind
 read_places line n bytes behind (k ∷ ks) = do
   z ← next_integer line behind

@@ -85,81 +85,81 @@ module _ (unit : Program) where
   abbrev pub IsPureFunction : ℕ → Type 0
   IsPureFunction p = IsPure p × HasNoOut (procedure_at unit p)
 
-  abbrev pub Plain : Expr → Type 0
-  Plain e = Refers IsPureFunction e
+  abbrev pub CallsPure : Expr → Type 0
+  CallsPure e = Refers IsPureFunction e
 
-  abbrev pub PlainAssign : Assign → Type 0
-  PlainAssign a = Plain a.value × RefersDesignator IsPureFunction a.target.designator
-
-  abbrev mutual
-    pub PlainWhere : Where → Type 0
-    PlainWhere (masked line mask body others) = Plain mask × PlainMasked body × PlainOthers others
-
-    pub PlainMasked : MaskedBody → Type 0
-    PlainMasked no_masked = Unit {0}
-    PlainMasked (assigning a more) = PlainAssign a × PlainMasked more
-    PlainMasked (narrowed w more) = PlainWhere w × PlainMasked more
-
-    pub PlainOthers : Others → Type 0
-    PlainOthers no_other = Unit {0}
-    PlainOthers (elsewhere line mask body more) = RefersMaybe IsPureFunction mask × PlainMasked body × PlainOthers more
-
-  abbrev pub PlainTriplet : Triplet → Type 0
-  PlainTriplet t = Plain t.first × Plain t.last × RefersBound IsPureFunction t.stride
-
-  abbrev pub PlainForall : Forall → Type 0
-  PlainForall f = Every PlainTriplet f.triplets × RefersMaybe IsPureFunction f.mask × Every PlainAssign f.body
-
-  abbrev pub PlainSpan : Span → Type 0
-  PlainSpan s = RefersBound IsPureFunction s.lower × Plain s.upper
-
-  abbrev pub PlainAllocation : Allocation → Type 0
-  PlainAllocation a = Every PlainSpan a.spans
+  abbrev pub PureAssign : Assign → Type 0
+  PureAssign a = CallsPure a.value × RefersDesignator IsPureFunction a.target.designator
 
   abbrev mutual
-    pub PlainStmt : Stmt → Type 0
-    PlainStmt (Assigns a) = PlainAssign a
-    PlainStmt (Masks w) = PlainWhere w
-    PlainStmt (ForAll f) = PlainForall f
-    PlainStmt (Calls line (call p es)) = IsPure p × RefersArguments IsPureFunction es
-    PlainStmt (Allocate line objects) = Every PlainAllocation objects
-    PlainStmt (Deallocate line names) = Unit {0}
-    PlainStmt (Print line es) = ⊥
-    PlainStmt (Read line targets) = ⊥
-    PlainStmt (If branches otherwise) = PlainBranches branches × PlainStmts otherwise
-    PlainStmt (Select line e cases otherwise) = Plain e × PlainCases cases × PlainStmts otherwise
-    PlainStmt (Do line n first last step body) = Plain first × Plain last × RefersBound IsPureFunction step × PlainStmts body
-    PlainStmt (While line e body) = Plain e × PlainStmts body
-    PlainStmt (Forever line body) = PlainStmts body
-    PlainStmt (Exit line out) = Unit {0}
-    PlainStmt (Cycle line out) = Unit {0}
-    PlainStmt (Return line) = Unit {0}
-    PlainStmt (Stop line) = ⊥
+    pub PureWhere : Where → Type 0
+    PureWhere (masked line mask body others) = CallsPure mask × PureMasked body × PureOthers others
 
-    pub PlainStmts : Stmts → Type 0
-    PlainStmts no_stmt = Unit {0}
-    PlainStmts (stmt s more) = PlainStmt s × PlainStmts more
+    pub PureMasked : MaskedBody → Type 0
+    PureMasked no_masked = Unit {0}
+    PureMasked (assigning a more) = PureAssign a × PureMasked more
+    PureMasked (narrowed w more) = PureWhere w × PureMasked more
 
-    pub PlainBranches : Branches → Type 0
-    PlainBranches no_branch = Unit {0}
-    PlainBranches (branch line e body more) = Plain e × PlainStmts body × PlainBranches more
+    pub PureOthers : Others → Type 0
+    PureOthers no_other = Unit {0}
+    PureOthers (elsewhere line mask body more) = RefersMaybe IsPureFunction mask × PureMasked body × PureOthers more
 
-    pub PlainCases : Cases → Type 0
-    PlainCases no_case = Unit {0}
-    PlainCases (case ranges body more) = PlainStmts body × PlainCases more
+  abbrev pub PureTriplet : Triplet → Type 0
+  PureTriplet t = CallsPure t.first × CallsPure t.last × RefersBound IsPureFunction t.stride
 
-  abbrev pub PlainBounds : Bounds → Type 0
-  PlainBounds Scalars = Unit {0}
-  PlainBounds (Explicit spans) = Every PlainSpan spans
-  PlainBounds (Assumed lowers) = Every (RefersBound IsPureFunction) lowers
-  PlainBounds (Deferred rank) = Unit {0}
+  abbrev pub PureForall : Forall → Type 0
+  PureForall f = Every PureTriplet f.triplets × RefersMaybe IsPureFunction f.mask × Every PureAssign f.body
 
-  abbrev pub PlainEntity : Entity → Type 0
-  PlainEntity e = PlainBounds e.bounds × RefersMaybe IsPureFunction e.initial
+  abbrev pub PureSpan : Span → Type 0
+  PureSpan s = RefersBound IsPureFunction s.lower × CallsPure s.upper
+
+  abbrev pub PureAllocation : Allocation → Type 0
+  PureAllocation a = Every PureSpan a.spans
+
+  abbrev mutual
+    pub PureStmt : Stmt → Type 0
+    PureStmt (Assigns a) = PureAssign a
+    PureStmt (Masks w) = PureWhere w
+    PureStmt (ForAll f) = PureForall f
+    PureStmt (Calls line (call p es)) = IsPure p × RefersArguments IsPureFunction es
+    PureStmt (Allocate line objects) = Every PureAllocation objects
+    PureStmt (Deallocate line names) = Unit {0}
+    PureStmt (Print line es) = ⊥
+    PureStmt (Read line targets) = ⊥
+    PureStmt (If branches otherwise) = PureBranches branches × PureStmts otherwise
+    PureStmt (Select line e cases otherwise) = CallsPure e × PureCases cases × PureStmts otherwise
+    PureStmt (Do line n first last step body) = CallsPure first × CallsPure last × RefersBound IsPureFunction step × PureStmts body
+    PureStmt (While line e body) = CallsPure e × PureStmts body
+    PureStmt (Forever line body) = PureStmts body
+    PureStmt (Exit line out) = Unit {0}
+    PureStmt (Cycle line out) = Unit {0}
+    PureStmt (Return line) = Unit {0}
+    PureStmt (Stop line) = ⊥
+
+    pub PureStmts : Stmts → Type 0
+    PureStmts no_stmt = Unit {0}
+    PureStmts (stmt s more) = PureStmt s × PureStmts more
+
+    pub PureBranches : Branches → Type 0
+    PureBranches no_branch = Unit {0}
+    PureBranches (branch line e body more) = CallsPure e × PureStmts body × PureBranches more
+
+    pub PureCases : Cases → Type 0
+    PureCases no_case = Unit {0}
+    PureCases (case ranges body more) = PureStmts body × PureCases more
+
+  abbrev pub PureBounds : Bounds → Type 0
+  PureBounds Scalars = Unit {0}
+  PureBounds (Explicit spans) = Every PureSpan spans
+  PureBounds (Assumed lowers) = Every (RefersBound IsPureFunction) lowers
+  PureBounds (Deferred rank) = Unit {0}
+
+  abbrev pub PureEntity : Entity → Type 0
+  PureEntity e = PureBounds e.bounds × RefersMaybe IsPureFunction e.initial
 
   -- each procedure that says that it is pure has the text of one
   abbrev pub KeepsPure : Type 0
-  KeepsPure = (p : ℕ) → IsPure p → Every PlainEntity (procedure_at unit p).entities × PlainStmts (procedure_at unit p).body
+  KeepsPure = (p : ℕ) → IsPure p → Every PureEntity (procedure_at unit p).entities × PureStmts (procedure_at unit p).body
 
 -- ---- what it changes
 

@@ -38,13 +38,13 @@ abbrev pub chosen : Value → Value → List (List ℕ) → List Scalar
 chosen a mask ps = map (at_place a) (filter (λ p. truth_of (at_place mask p)) ps)
 
 -- the places that differ from one in a dimension alone
-abbrev pub line_of : ℕ → List ℕ → List ℕ → List (List ℕ)
-line_of dim extents place = map (λ j. with_entry dim j place) (count_to (entry dim extents))
+abbrev pub along : ℕ → List ℕ → List ℕ → List (List ℕ)
+along dim extents place = map (λ j. with_entry dim j place) (count_to (entry dim extents))
 
 abbrev pub reduced : Scalar → (List Scalar → Scalar) → Option ℕ → Value → Value → Result Value FaultKind
 reduced like f None a mask = Ok (scalar_value (f (chosen a mask (places a.extents))))
 reduced like f (Some dim) a mask = within_limit
-    (by_place like (without dim a.extents) (λ p. f (chosen a mask (line_of dim a.extents p))))
+    (by_place like (without dim a.extents) (λ p. f (chosen a mask (along dim a.extents p))))
 
 -- sums and products wrap, also where an operator's overflow is to be a fault; of no elements they are 0 and 1, the greatest is
 -- the least integer and the least the greatest

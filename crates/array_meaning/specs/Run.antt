@@ -4,7 +4,7 @@ use Rattle.std.specs.Prelude.{ℕ, List, [], Result, Ok, Err}
 use Rattle.a95_base.specs.Outcome.{Stop, Ended, Faulted, Outcome, Finished, Going, Run}
 use Rattle.a95_base.specs.Steps.{Ran}
 use Rattle.f95_unit.specs.Plain.{Program}
-use Rattle.array_meaning.specs.State.{State, Halt, Stopped, Faults, Waits, Step}
+use Rattle.array_meaning.specs.State.{State, Halt, Stopped, Faults, OutOfTurns, Step}
 use Rattle.array_meaning.specs.Calls.{variables_at_start, body_acts, called}
 
 -- the calls that may be active at once
@@ -18,7 +18,7 @@ abbrev pub outcome_of : Result (Unit {0}) Halt → Outcome Stop
 outcome_of (Ok done) = Finished Ended
 outcome_of (Err Stopped) = Finished Ended
 outcome_of (Err (Faults kind line)) = Finished (Faulted kind line)
-outcome_of (Err Waits) = Going
+outcome_of (Err OutOfTurns) = Going
 
 abbrev pub run_of : Ran Halt State (Unit {0}) → Run Stop
 run_of r = record { written = r.after.written; outcome = outcome_of r.came }

@@ -8,7 +8,7 @@ use Rattle.a95_base.specs.Steps.{pure, ◌>>=◌, ◌>>◌}
 use Rattle.a95_base.specs.Limits.{most_elements}
 use Rattle.a95_base.specs.Lists.{count_to}
 use Rattle.array_meaning.specs.Values.{Value, size_of, number_of, choices, length_of}
-use Rattle.array_meaning.specs.State.{Dimension, Array, Variable, Step, Bytes, bytes_of, extents_of, unless, variable, living}
+use Rattle.array_meaning.specs.State.{Dimension, Array, Variable, Step, Substring, bytes_of, extents_of, unless, variable, allocated_array}
 
 -- MAX(INT((last - first + stride) / stride), 0), in exact integers
 abbrev pub triplet_count : ℤ → ℤ → ℤ → ℕ
@@ -60,7 +60,7 @@ abbrev pub is_part : ℕ → Option (ℤ × ℤ) → Bool
 is_part len None = true
 is_part len (Some part) = int_lt part.1 part.0 || (int_le (pos 1) part.0 && int_le part.1 (pos len))
 
-abbrev pub part_bytes : Option (ℤ × ℤ) → Bytes
+abbrev pub part_bytes : Option (ℤ × ℤ) → Substring
 part_bytes None = None
 part_bytes (Some part) = if int_lt part.1 part.0 then Some (1, 0) else Some (unsigned_abs part.0, unsigned_abs part.1)
 
@@ -70,7 +70,7 @@ pub record Section : Type 0 where
   pub variable : ℕ
   pub extents : List ℕ
   pub places : List ℕ
-  pub bytes : Bytes
+  pub bytes : Substring
   pub addressed : Bool
 
 abbrev pub is_whole_text : Option (ℤ × ℤ) → Bool
@@ -109,7 +109,7 @@ section_value v a s = record {
 abbrev pub read_section : ℕ → Section → Step Value
 read_section line s = do
   v ← variable s.variable
-  a ← living line v.held
+  a ← allocated_array line v.held
   pure (section_value v a s)
 
 -- no place stands twice

@@ -48,7 +48,7 @@ pub record State : Type 0 where
 pub data Halt : Type 0 where
   Stopped : Halt
   Faults : (kind : FaultKind) (line : ℕ) → Halt
-  Waits : Halt
+  OutOfTurns : Halt
 
 abbrev pub Step : Type 0 → Type 0
 Step A = State → Ran Halt State A
@@ -74,13 +74,13 @@ given line (Ok a) s = pure a s
 given line (Err kind) s = stop (Faults kind line) s
 
 -- the array that a variable holds
-unfoldable pub living : ℕ → Option Array → Step Array
-living line (Some a) s = pure a s
-living line None s = stop (Faults fault.NotAllocated line) s
+unfoldable pub allocated_array : ℕ → Option Array → Step Array
+allocated_array line (Some a) s = pure a s
+allocated_array line None s = stop (Faults fault.NotAllocated line) s
 
 -- a turn begins, if one is left
 unfoldable pub turn_from : ℕ → Step (Unit {0})
-turn_from zero s = stop Waits s
+turn_from zero s = stop OutOfTurns s
 turn_from (suc n) s = pure tt (record s { left = n })
 
 unfoldable pub turn : Step (Unit {0})
@@ -102,33 +102,33 @@ unfoldable pub set_variable : ℕ → Variable → Step (Unit {0})
 set_variable n v s = pure tt (record s { variables = slice_set s.variables n v })
 
 -- the bytes of each element that are named: from one place to another, or all
-abbrev pub Bytes : Type 0
-Bytes = Option (ℕ × ℕ)
+abbrev pub Substring : Type 0
+Substring = Option (ℕ × ℕ)
 
-abbrev pub bytes_of : Bytes → Scalar → Scalar
+abbrev pub bytes_of : Substring → Scalar → Scalar
 bytes_of None x = x
 bytes_of (Some part) x = scalar.Text (part_of (text_of x) part.0 part.1)
 
 -- an element after a store: a text is cut or padded to the length of what is named
-abbrev pub changed : Scalar → Bytes → Scalar → Scalar → Scalar
+abbrev pub changed : Scalar → Substring → Scalar → Scalar → Scalar
 changed (scalar.Text blank) None old new = scalar.Text (fit (length blank) (text_of new))
 changed (scalar.Text blank) (Some part) old new =
     scalar.Text (over (text_of old) part.0 (fit (length (part_of (text_of old) part.0 part.1)) (text_of new)))
 changed blank bytes old new = new
 
 -- elements after stores at numbered places, one after the other
-abbrev pub with_stored : Scalar → Bytes → List (ℕ × Scalar) → List Scalar → List Scalar
+abbrev pub with_stored : Scalar → Substring → List (ℕ × Scalar) → List Scalar → List Scalar
 with_stored blank bytes stores xs = fold
     (λ ys p. slice_set ys p.0 (changed blank bytes (slice_index_or ys p.0 blank) p.1)) xs stores
 
-abbrev pub held_after : Scalar → Bytes → List (ℕ × Scalar) → Option Array → Option Array
+abbrev pub held_after : Scalar → Substring → List (ℕ × Scalar) → Option Array → Option Array
 held_after blank bytes stores None = None
 held_after blank bytes stores (Some a) = Some (record a { elements = with_stored blank bytes stores a.elements })
 
-abbrev pub stored_in : Variable → Bytes → List (ℕ × Scalar) → Variable
+abbrev pub stored_in : Variable → Substring → List (ℕ × Scalar) → Variable
 stored_in v bytes stores = record v { held = held_after v.blank bytes stores v.held }
 
-unfoldable pub store_all : ℕ → Bytes → List (ℕ × Scalar) → Step (Unit {0})
+unfoldable pub store_all : ℕ → Substring → List (ℕ × Scalar) → Step (Unit {0})
 store_all n bytes stores s = set_variable n (stored_in (slice_index_or s.variables n no_variable) bytes stores) s
 
 -- a scalar variable takes a value

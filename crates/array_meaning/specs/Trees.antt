@@ -16,8 +16,8 @@ use Rattle.array_meaning.specs.Sections.{Section}
 mutual
   pub data Tree : Type 0 where
     Held : Value → Option Section → Tree
-    Opposed : UnaryOp → Tree → Tree
-    Two : BinaryOp → Tree → Tree → Tree
+    UnaryOf : UnaryOp → Tree → Tree
+    BinaryOf : BinaryOp → Tree → Tree → Tree
     Each : Elemental → Trees → Tree
     CallEach : (procedure : ℕ) (like : Scalar) → Trees → Tree
 
@@ -59,8 +59,8 @@ joined_shapes (Ok extents) (Ok other) = joint extents other
 abbrev mutual
   pub shape : Tree → Result (List ℕ) FaultKind
   shape (Held v section) = Ok v.extents
-  shape (Opposed op t) = shape t
-  shape (Two op t u) = joined_shapes (shape t) (shape u)
+  shape (UnaryOf op t) = shape t
+  shape (BinaryOf op t u) = joined_shapes (shape t) (shape u)
   shape (Each which ts) = shapes ts
   shape (CallEach p like ts) = shapes ts
 
@@ -73,8 +73,8 @@ abbrev mutual
 abbrev mutual
   pub like : Tree → Scalar
   like (Held v section) = v.like
-  like (Opposed op t) = unary_like op (like t)
-  like (Two op t u) = binary_like op (like t) (like u)
+  like (UnaryOf op t) = unary_like op (like t)
+  like (BinaryOf op t u) = binary_like op (like t) (like u)
   like (Each which ts) = elemental_like which (likes ts)
   like (CallEach p x ts) = x
 
@@ -91,10 +91,10 @@ module _ (calls : Caller) (line : ℕ) where
   abbrev mutual
     pub element : Tree → ℕ → Step Scalar
     element (Held v section) k = pure (element_of v k)
-    element (Opposed op t) k = do
+    element (UnaryOf op t) k = do
       x ← element t k
       pure (unary_of op x)
-    element (Two op t u) k = do
+    element (BinaryOf op t u) k = do
       x ← element t k
       y ← element u k
       given line (binary_of op x y)

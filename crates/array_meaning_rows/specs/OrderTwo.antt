@@ -2,10 +2,11 @@
 use Rattle.std.specs.Prelude.{false, None, [], ◌∷◌}
 use Rattle.a95_base.specs.declared.fault.FaultKind.TheVariants as fault
 use Rattle.f95_unit.specs.declared.operation.BinaryOp.TheVariants as binary
+use Rattle.f95_unit.specs.declared.operation.Elemental.TheVariants as elemental
 use Rattle.f95_unit.specs.declared.unit.DeclaredType.TheVariants as declared
 use Rattle.f95_unit.specs.declared.unit.Role.TheVariants as role
-use Rattle.f95_unit.specs.Plain.{typed, Named, Binary, Constructor, at, Whole, Subscripted, no_subscript, subscript, Vector, Spans, Absent, Given, AllOf, no_item, value, masked, no_masked, assigning, narrowed, no_other, Assigns, Masks, no_stmt, stmt, Scalars, Explicit, Program}
-use Rattle.array_meaning.specs.Build.{ints, logs, int, target, assign, span, entity, procedure, program, faulted, Comes}
+use Rattle.f95_unit.specs.Plain.{typed, Named, Binary, Constructor, Elementwise, at, Whole, Subscripted, no_subscript, subscript, One, Vector, Spans, Absent, Given, AllOf, no_item, value, no_argument, argument, masked, no_masked, assigning, narrowed, no_other, Assigns, Masks, ForAll, no_stmt, stmt, Scalars, Explicit, Program}
+use Rattle.array_meaning.specs.Build.{ints, logs, int, target, assign, triplet, forall_over, span, entity, procedure, program, faulted, Comes}
 
 --     program p; integer :: a(3), n; n = 2; where (a(1:n) == 0) a = 1; end
 unfoldable pub mask_of_another_shape : Program
@@ -69,3 +70,20 @@ mask_shape_before_many_one = program
 
 abbrev pub MaskShapeBeforeManyOne : Type 0
 MaskShapeBeforeManyOne = Comes mask_shape_before_many_one ([]) 100 (faulted fault.Shape 4 ([]))
+
+--     program p; integer :: a(3), i, n; forall (i = 1:1) a(4 + n) = mod(1, n); end
+unfoldable pub left_parts_behind_right_in_forall : Program
+left_parts_behind_right_in_forall = program
+    ([])
+    (procedure 1 false false false
+    (entity 1 declared.Integer (Explicit (span Absent (int 3) ∷ [])) role.Own None ∷ entity 1 declared.Integer Scalars
+    role.Own None ∷ entity 1 declared.Integer Scalars role.Own None ∷ [])
+    None
+    (stmt (ForAll (forall_over 1 (triplet (int 1) (int 1) Absent ∷ []) None (assign 1 (target (ints 0) (at 0 (Subscripted
+    (subscript (One (typed (ints 0) (Binary binary.Add (int 4) (typed (ints 0) (Named (at 2 Whole AllOf))))))
+    no_subscript)) AllOf)) (typed (ints 0) (Elementwise elemental.Mod (argument 0 (int 1) (argument 1 (typed (ints 0)
+    (Named (at 2 Whole AllOf))) no_argument)))) ∷ []))) no_stmt))
+    ([])
+
+abbrev pub LeftPartsBehindRightInForall : Type 0
+LeftPartsBehindRightInForall = Comes left_parts_behind_right_in_forall ([]) 100 (faulted fault.ZeroDivide 1 ([]))
