@@ -1,0 +1,56 @@
+//! Lists whose first item is put and taken.
+
+ghost use Rattle.std.specs.Prelude.{◌≡◌, [], ◌∷◌, length, reverse, OnOk, MatchOption};
+ghost use Rattle.f95_blocks.specs.Lists.{rest_of};
+
+use std::alloc::{AllocError, Global};
+use std::marker::Model;
+
+/// What is open, the innermost first. Contracts see that list.
+#[derive(Drop)]
+pub struct Stack<T> {
+    items: Vec<T>,
+}
+
+impl<T> Model for Stack<T> {
+    ghost use Rattle.std.specs.Prelude.{List, reverse};
+    ghost use Rattle.std.specs.Coded.{coded_list};
+
+    ghost Value = { List T };
+
+    ghost coded = { coded_list T.code };
+
+    ghost view = { λ s. reverse s.items.items };
+}
+
+impl<T> Stack<T> {
+    /// Nothing is open. Takes no memory.
+    pub fn new(alloc: Global) -> Stack<T>
+        ensures { result ≡ [] }
+    {
+        Stack {
+            items: Vec::new(alloc),
+        }
+    }
+
+    pub fn top(&self) -> Option<&T>
+        ensures { MatchOption result (self.now ≡ []) (λ top. self.now ≡ top.now ∷ rest_of self.now) }
+    {
+        self.items.last()
+    }
+
+    pub fn pop(&mut self) -> Option<T>
+        ensures { MatchOption result ((self.old ≡ []) × (self.new ≡ [])) (λ top. self.old ≡ top ∷ self.new) }
+    {
+        self.items.pop()
+    }
+}
+
+impl<T: Drop> Stack<T> {
+    pub fn push(&mut self, item: T) -> Result<(), AllocError>
+        ensures { OnOk result (self.new ≡ item ∷ self.old) }
+    {
+        self.items.push(item)?;
+        Ok(())
+    }
+}
