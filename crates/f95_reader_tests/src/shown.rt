@@ -84,24 +84,6 @@ pub fn put(out: &mut String, expression: &Expression) -> Result<(), AllocError> 
 }
 
 #[cycle(shown)]
-fn put_maybe(out: &mut String, expression: Option<&Boxed<Expression>>) -> Result<(), AllocError> {
-    match expression {
-        None => out.push_str("_"),
-        Some(inner) => put(out, inner.get()),
-    }
-}
-
-#[cycle(shown)]
-fn put_items(out: &mut String, items: &[Item]) -> Result<(), AllocError> {
-    out.push_str("(")?;
-    for item in items {
-        put_item(out, item)?;
-        out.push_str(";")?;
-    }
-    out.push_str(")")
-}
-
-#[cycle(shown)]
 fn put_item(out: &mut String, item: &Item) -> Result<(), AllocError> {
     match item {
         Item::Plain(inner) => put(out, inner),
@@ -111,11 +93,21 @@ fn put_item(out: &mut String, item: &Item) -> Result<(), AllocError> {
             put(out, inner)
         }
         Item::Triplet(lower, upper, stride) => {
-            put_maybe(out, lower.as_ref())?;
+            match lower {
+                None => out.push_str("_")?,
+                Some(lower) => put(out, lower.get())?,
+            }
             out.push_str(":")?;
-            put_maybe(out, upper.as_ref())?;
+            match upper {
+                None => out.push_str("_")?,
+                Some(upper) => put(out, upper.get())?,
+            }
             out.push_str(":")?;
-            put_maybe(out, stride.as_ref())
+            match stride {
+                None => out.push_str("_")?,
+                Some(stride) => put(out, stride.get())?,
+            }
+            Ok(())
         }
     }
 }
@@ -126,14 +118,31 @@ fn put_reference(out: &mut String, reference: &Reference) -> Result<(), AllocErr
         Reference::Whole(name) => put_bytes(out, name.as_slice()),
         Reference::Items(name, items) => {
             put_bytes(out, name.as_slice())?;
-            put_items(out, items.as_slice())
+            out.push_str("(")?;
+            for item in items.as_slice() {
+                put_item(out, item)?;
+                out.push_str(";")?;
+            }
+            out.push_str(")")
         }
         Reference::Substring(name, items, lower, upper) => {
             put_bytes(out, name.as_slice())?;
-            put_items(out, items.as_slice())?;
-            put_maybe(out, lower.as_ref())?;
+            out.push_str("(")?;
+            for item in items.as_slice() {
+                put_item(out, item)?;
+                out.push_str(";")?;
+            }
+            out.push_str(")")?;
+            match lower {
+                None => out.push_str("_")?,
+                Some(lower) => put(out, lower.get())?,
+            }
             out.push_str("..")?;
-            put_maybe(out, upper.as_ref())
+            match upper {
+                None => out.push_str("_")?,
+                Some(upper) => put(out, upper.get())?,
+            }
+            Ok(())
         }
     }
 }
@@ -152,7 +161,11 @@ fn put_value(out: &mut String, value: &Value) -> Result<(), AllocError> {
             out.push_str(":")?;
             put(out, last.get())?;
             out.push_str(":")?;
-            put_maybe(out, step.as_ref())
+            match step {
+                None => out.push_str("_")?,
+                Some(step) => put(out, step.get())?,
+            }
+            Ok(())
         }
     }
 }
