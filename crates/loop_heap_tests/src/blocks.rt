@@ -287,16 +287,16 @@ fn freed_blocks_are_gone(rt: HostRuntime) -> Result<(), Fail> {
 }
 
 #[test]
-fn blocks_at_hand_are_read_and_set_at_once(rt: HostRuntime) -> Result<(), Fail> {
+fn cells_at_a_hint_are_read_and_set_at_once(rt: HostRuntime) -> Result<(), Fail> {
     let mut blocks = Blocks::new(rt.alloc());
     let Ok(link) = blocks.new_ints(2) else {
         return Err(Fail::new("no block was made"));
     };
-    assert!(rt; blocks.store_at_hand(&link, 1, 5));
-    assert_eq!(rt; blocks.cell_at_hand(&link, 1), Some(5));
-    assert_eq!(rt; blocks.cell_at_hand(&link, 2), None);
-    assert!(rt; !blocks.store_at_hand(&link, -1, 5));
+    assert!(rt; blocks.store_at_hint(&link, 1, 5));
+    assert_eq!(rt; blocks.cell_at_hint(&link, 1), Some(5));
+    assert_eq!(rt; blocks.cell_at_hint(&link, 2), None);
+    assert!(rt; !blocks.store_at_hint(&link, -1, 5));
     assert!(rt; blocks.free(Some(link.again())).is_ok());
-    assert_eq!(rt; blocks.cell_at_hand(&link, 1), None);
+    assert_eq!(rt; blocks.cell_at_hint(&link, 1), None);
     Ok(())
 }

@@ -112,13 +112,13 @@ fn words_are_read_back(rt: HostRuntime) -> Result<(), Fail> {
 }
 
 #[test]
-fn numbers_at_hand_are_read_and_set_at_once(rt: HostRuntime) -> Result<(), Fail> {
+fn numbers_of_low_places_are_read_and_set_at_once(rt: HostRuntime) -> Result<(), Fail> {
     let mut numbers = Numbers::new(rt.alloc());
-    assert!(rt; !numbers.set_at_hand(2, 7));
+    assert!(rt; !numbers.set_dense(2, 7));
     numbers.set(2, 6)?;
-    assert!(rt; numbers.set_at_hand(2, 7));
-    assert_eq!(rt; numbers.at_hand(2), Some(7));
-    assert_eq!(rt; numbers.at_hand(1), Some(0));
-    assert_eq!(rt; numbers.at_hand(3), None);
+    assert!(rt; numbers.set_dense(2, 7));
+    assert_eq!(rt; numbers.get_dense(2), Some(7));
+    assert_eq!(rt; numbers.get_dense(1), Some(0));
+    assert_eq!(rt; numbers.get_dense(3), None);
     Ok(())
 }
