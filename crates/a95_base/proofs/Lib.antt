@@ -1,3 +1,4 @@
+pub mod First
 pub mod Integers
 pub mod Lists
 pub mod Moduli

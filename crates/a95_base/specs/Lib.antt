@@ -1,3 +1,4 @@
+pub mod Breaks
 pub mod Fault
 pub mod Input
 pub mod Integer

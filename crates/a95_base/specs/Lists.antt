@@ -33,3 +33,8 @@ down_to_one (suc n) = suc n ∷ down_to_one n
 abbrev pub count_to : ℕ → List ℕ
 count_to zero = []
 count_to (suc n) = count_to n ++ n ∷ []
+
+-- what stands behind the first item
+abbrev pub rest_of : {A : Type 0} → List A → List A
+rest_of [] = []
+rest_of (x ∷ xs) = xs

@@ -10,7 +10,9 @@ use Rattle.f95_blocks.specs.declared.open.State.TheVariants as state
 use Rattle.f95_blocks.specs.Placed.{Placed, Text}
 use Rattle.f95_blocks.specs.Nesting.{Lined, bare, forms_of, Nests, Begins, Stands, IsBroken, no_nesting, wrong_name, many_blocks, unended, most_blocks}
 use Rattle.f95_blocks.specs.Machine.{move, run, start, mark, mark_of}
-use Rattle.f95_blocks.specs.Breaks.{Break, broken_at, noted, place_breaks, then_breaks, step_breaks, passed, end_breaks, breaks}
+use Rattle.a95_base.specs.declared.breaks.Break.{Break}
+use Rattle.a95_base.specs.Breaks.{broken_at}
+use Rattle.f95_blocks.specs.Breaks.{noted, place_breaks, then_breaks, step_breaks, passed, end_breaks, breaks}
 use Rattle.f95_blocks.proofs.Complete.{run_append}
 use Rattle.f95_blocks.proofs.Sources.{stops_stay}
 use Rattle.f95_blocks.proofs.Exact.{marks, bare_mark, forms_marks, text_read, nests_read, read_nests, going_begins, ended_begins, stopped_begins_none, unstopped_begins}

@@ -1,5 +1,5 @@
 -- The first of what is broken along the run is the least of all that the forms break; where nothing is, they nest.
-use Rattle.std.proofs.Common.{◌≡◌, ℕ, List, [], ◌∷◌, ◌++◌, sym, ◌∙◌, ap, refl, inl}
+use Rattle.std.proofs.Common.{◌≡◌, ℕ, List, [], ◌∷◌, ◌++◌, Some, sym, ◌∙◌, ap, refl, inl}
 use Rattle.a95_base.specs.Lists.{Member}
 use Rattle.f95_tree.specs.declared.source.Source.{Source}
 use Rattle.f95_blocks.specs.declared.open.State.{State}
@@ -8,7 +8,10 @@ use Rattle.f95_blocks.specs.Nesting.{Lined, Nests, IsBroken}
 use Rattle.f95_blocks.specs.Machine.{move, run, start, mark}
 use Rattle.f95_blocks.specs.Breaks.{then_breaks, step_breaks, passed, end_breaks, breaks}
 use Rattle.f95_blocks.proofs.Exact.{read_nests}
-use Rattle.f95_blocks.proofs.Judged.{broken_is}
+use Rattle.f95_blocks.proofs.Judged.{broken_is, is_broken}
+use Rattle.a95_base.specs.declared.breaks.Break.{Break}
+use Rattle.a95_base.specs.Breaks.{IsLeast, AreBroken, first_of}
+use Rattle.a95_base.proofs.First.{first_is_least}
 
 none_of : {A : Type 0} (xs : List A) → ((x : A) → Member xs x → ⊥) → xs ≡ []
 none_of [] h = refl
@@ -45,3 +48,14 @@ unbroken_nests forms feeds h =
     let none = none_of (breaks forms feeds) (λ b m. h b.line b.rule (broken_is forms feeds b m)) in
     let e = parts_empty (passed start forms) (end_breaks feeds (run start forms)) none in
     nested_at forms feeds (run start forms) refl (passed_goes forms start (λ (z : start ≡ state.Stops). absurd (cc)) e.0) e.1
+
+-- along the run exactly what the forms break is noted
+are_noted : (forms : List Lined) (feeds : ℕ) → AreBroken (IsBroken forms feeds) (breaks forms feeds)
+are_noted forms feeds = record {
+  sound = λ b. broken_is forms feeds b;
+  complete = λ line. λ rule. is_broken forms feeds line rule;
+}
+
+-- so the first that is noted is the least
+pub first_noted : (forms : List Lined) (feeds : ℕ) (f : Break) → first_of (breaks forms feeds) ≡ Some f → IsLeast (IsBroken forms feeds) f.line f.rule
+first_noted forms feeds f e = first_is_least (IsBroken forms feeds) (breaks forms feeds) f (are_noted forms feeds) e

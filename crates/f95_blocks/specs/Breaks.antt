@@ -1,19 +1,13 @@
--- The rules that are broken along a run of the machine, and the first of them.
-use Rattle.std.specs.Prelude.{ℕ, ◌+◌, Bool, true, false, ◌&&◌, ◌||◌, nat_lt, nat_le, ◌==◌, List, [], ◌∷◌, ◌++◌, Option, Some, None, if◌then◌else◌}
+-- The rules that are broken along a run of the machine.
+use Rattle.std.specs.Prelude.{ℕ, ◌+◌, Bool, true, false, nat_lt, List, [], ◌∷◌, ◌++◌}
+use Rattle.a95_base.specs.declared.breaks.Break.{Break}
+use Rattle.a95_base.specs.Breaks.{broken_at}
 use Rattle.a95_base.specs.Rules.{wrong_nesting, wrong_construct_name, too_many_blocks, no_end}
 use Rattle.f95_blocks.specs.declared.open.State.{State}
 use Rattle.f95_blocks.specs.declared.open.State.TheVariants as state
 use Rattle.f95_blocks.specs.Placed.{Placed}
 use Rattle.f95_blocks.specs.Nesting.{Lined, most_blocks}
 use Rattle.f95_blocks.specs.Machine.{move, run, start, mark_of}
-
--- a rule that is broken on a line
-pub record Break : Type 0 where
-  pub line : ℕ
-  pub rule : ℕ
-
-abbrev pub broken_at : ℕ → ℕ → Break
-broken_at l r = record { line = l; rule = r }
 
 -- this one, if the test holds
 abbrev pub noted : Bool → Break → List Break
@@ -48,15 +42,3 @@ end_breaks feeds state.Stops = []
 
 abbrev pub breaks : List Lined → ℕ → List Break
 breaks forms feeds = passed start forms ++ end_breaks feeds (run start forms)
-
--- the first of some breaks
-abbrev pub comes_first : Break → Break → Bool
-comes_first a b = nat_lt a.line b.line || (a.line == b.line && nat_le a.rule b.rule)
-
-abbrev pub first_from : Break → List Break → Break
-first_from b [] = b
-first_from b (c ∷ cs) = first_from (if comes_first b c then b else c) cs
-
-abbrev pub first_of : List Break → Option Break
-first_of [] = None
-first_of (b ∷ bs) = Some (first_from b bs)

@@ -1,8 +1,9 @@
 -- What a list of forms nests to, and the rules of refusal of this phase, each with its line.
-use Rattle.std.specs.Prelude.{◌≡◌, ℕ, ◌+◌, ◌<◌, ◌≤◌, ◌⊎◌, Bool, true, ◌&&◌, List, [], ◌∷◌, ◌++◌, map}
+use Rattle.std.specs.Prelude.{◌≡◌, ℕ, ◌+◌, ◌<◌, Bool, true, ◌&&◌, List, [], ◌∷◌, ◌++◌, map}
 use Rattle.a95_base.specs.declared.source.Line.{Line}
 use Rattle.a95_base.specs.declared.source.PhaseError.{PhaseError}
 use Rattle.a95_base.specs.declared.source.PhaseError.TheVariants.{Memory, Broken}
+use Rattle.a95_base.specs.Breaks.{IsLeast}
 use Rattle.a95_base.specs.Rules.{wrong_nesting, wrong_construct_name, too_many_blocks, no_end}
 use Rattle.f95_tree.specs.declared.form.Form.{Form}
 use Rattle.f95_tree.specs.declared.source.Source.{Source}
@@ -58,16 +59,7 @@ pub data IsBroken (forms : List Lined) (feeds : ℕ) : ℕ → ℕ → Type 0 wh
   -- rule 17: all statements begin a nesting, and the file ends before its main program ends
   unended : Begins forms → ((s : Source) → Nests forms s → ⊥) → IsBroken forms feeds (feeds + 1) no_end
 
--- a line and a rule come before another line and rule, or are the same
-abbrev pub ComesFirst : ℕ → ℕ → ℕ → ℕ → Type 0
-ComesFirst line rule other_line other_rule = (line < other_line) ⊎ ((line ≡ other_line) × (rule ≤ other_rule))
-
--- of all that the forms break, the first line and on it the least rule
-pub record IsLeast (forms : List Lined) (feeds line rule : ℕ) : Type 0 where
-  pub broken : IsBroken forms feeds line rule
-  pub least : (other_line other_rule : ℕ) → IsBroken forms feeds other_line other_rule → ComesFirst line rule other_line other_rule
-
 -- what a refusal of these forms says
 abbrev pub Refuses : List Lined → ℕ → PhaseError → Type 0
 Refuses forms feeds Memory = Unit {0}
-Refuses forms feeds (Broken line rule) = IsLeast forms feeds line.0 rule.0
+Refuses forms feeds (Broken line rule) = IsLeast (IsBroken forms feeds) line.0 rule.0

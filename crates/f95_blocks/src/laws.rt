@@ -3,7 +3,9 @@ ghost use Rattle.std.specs.Prelude.{◌≡◌, ℕ, List};
 ghost use Rattle.a95_base.specs.Lists.{Member};
 ghost use Rattle.f95_tree.specs.declared.source.Source.{Source};
 ghost use Rattle.f95_blocks.specs.Nesting.{Lined, Nests, Begins, IsBroken};
-ghost use Rattle.f95_blocks.specs.Breaks.{Break, broken_at, breaks};
+ghost use Rattle.a95_base.specs.declared.breaks.Break.{Break};
+ghost use Rattle.a95_base.specs.Breaks.{broken_at};
+ghost use Rattle.f95_blocks.specs.Breaks.{breaks};
 ghost use Rattle.f95_blocks.specs.Machine.{run, start};
 ghost use Rattle.f95_blocks.specs.declared.open.State.TheVariants.{Ended, Stops};
 

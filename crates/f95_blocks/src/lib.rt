@@ -5,11 +5,9 @@
 
 mod laws;
 mod open;
-mod stack;
 
 pub use laws::{nests_as_read, one_nesting, rules_as_noted, unbroken_forms_nest};
 pub use open::{
     Block, Body, BranchHead, CaseHead, DoHead, Frame, Host, IfHead, Inner, Place, SelectHead,
     State, WhereFrame, WherePart,
 };
-pub use stack::Stack;

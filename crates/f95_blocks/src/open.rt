@@ -1,8 +1,7 @@
 //! What has been read of a source that isn't ended: the modules before, and the unit and the blocks that are open, each with what
 //! stands before it.
 
-use crate::stack::Stack;
-use a95_base::{Bytes, Line};
+use a95_base::{Bytes, Line, Stack};
 use f95_tree::{
     Assignment, Branch, Case, CaseRange, Control, ElseWhere, Expression, Header, Module, Procedure,
     Section, Source, Statement, Subprogram, WhereStatement,

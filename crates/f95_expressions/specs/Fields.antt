@@ -10,10 +10,6 @@ use Rattle.f95_expressions.specs.declared.pending.Field.{Field}
 use Rattle.f95_expressions.specs.declared.pending.Spread.{Spread}
 use Rattle.f95_expressions.specs.declared.pending.Spread.TheVariants as spread
 
-abbrev pub rest_of : {A : Type 0} → List A → List A
-rest_of [] = []
-rest_of (_ ∷ xs) = xs
-
 abbrev pub spread_text : Spread → Text
 spread_text spread.Empty = []
 spread_text (spread.One v) = value v

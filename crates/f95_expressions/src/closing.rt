@@ -5,8 +5,7 @@ ghost use Rattle.f95_expressions.specs.Machine.{lone, whole, item_from, item_of,
 
 use crate::field::lone;
 use crate::pending::{Field, Spread};
-use crate::stack::Stack;
-use a95_base::Bytes;
+use a95_base::{Bytes, Stack};
 use f95_tree::{Expression, Item, Reference, Value};
 use sqlite_items::{Boxed, Items};
 use std::alloc::{AllocError, Global};

@@ -9,10 +9,8 @@ mod levels;
 mod machine;
 mod pending;
 mod run;
-mod stack;
 
 pub use closing::{expression_of, items_of, whole, within};
 pub use field::lone;
 pub use pending::{Bracket, Ending, Field, Held, Machine, Pending, Spread, Stage};
 pub use run::{Closed, bracket, row};
-pub use stack::Stack;

@@ -7,7 +7,7 @@ use crate::closing::{bracketed, implied, items_of, made_part, values_of};
 use crate::field::{assigned, coloned, field_of};
 use crate::levels::{left_of, level, right_of, sign_level, under_sign};
 use crate::pending::{Bracket, Ending, Field, Held, Machine, Pending, Stage};
-use crate::stack::Stack;
+use a95_base::Stack;
 use f95_tree::{Expression, Literal, Operator, Punctuation, Reference, Sign, Terminal, Value};
 use sqlite_items::Boxed;
 use std::alloc::{AllocError, Global};

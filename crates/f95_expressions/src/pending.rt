@@ -1,7 +1,6 @@
 //! What the machine has read: fields, and what is still open.
 
-use crate::stack::Stack;
-use a95_base::Bytes;
+use a95_base::{Bytes, Stack};
 use f95_tree::{Expression, Item, Operator, Sign, Value};
 use sqlite_items::Items;
 

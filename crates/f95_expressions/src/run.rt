@@ -5,7 +5,7 @@ ghost use Rattle.f95_expressions.specs.Machine.{bracket, row, closed_at, is_clos
 
 use crate::machine::{ended_row, fresh, step};
 use crate::pending::{Bracket, Field, Machine};
-use crate::stack::Stack;
+use a95_base::Stack;
 use f95_tree::Terminal;
 use std::alloc::{AllocError, Global};
 

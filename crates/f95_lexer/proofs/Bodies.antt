@@ -2,7 +2,7 @@
 use Rattle.std.proofs.Common.{◌≡◌, ℕ, Bool, true, false, ◌&&◌, ◌||◌, ◌==◌, cond, List, [], ◌∷◌, ◌++◌, map, Option, Some, None, refl}
 use Rattle.std.proofs.Common.{sym, ap, ◌∙◌, subst, arith}
 use Rattle.std.proofs.lemmas.Bool.Decides.{nat_tests}
-use Rattle.f95_lexer.specs.declared.character.Break.{Break}
+use Rattle.a95_base.specs.declared.breaks.Break.{Break}
 use Rattle.f95_lexer.specs.declared.splice.Mode.{Mode}
 use Rattle.f95_lexer.specs.declared.splice.Mode.TheVariants.{Fresh, Goes, Inside}
 use Rattle.f95_lexer.specs.Characters.{AllPass, is_blank, is_delimiter, from_blank, is_empty, is_comment}
@@ -10,7 +10,8 @@ use Rattle.f95_lexer.specs.Continuation.{opened, kept, open_behind, HasNoComment
 use Rattle.f95_lexer.specs.Continuation.{ends, HasBody, has_semicolon, parted, character}
 use Rattle.a95_base.specs.Rules as refusal
 use Rattle.f95_lexer.specs.Limits.{too_many_lines}
-use Rattle.f95_lexer.specs.Splicing.{Spliced, put, broken_at, scan}
+use Rattle.a95_base.specs.Breaks.{broken_at}
+use Rattle.f95_lexer.specs.Splicing.{Spliced, put, scan}
 use Rattle.f95_lexer.specs.Splicing as splicing
 use Rattle.f95_lexer.proofs.Written.{skip, stay}
 

@@ -9,7 +9,8 @@ use Rattle.f95_lexer.specs.declared.splice.Mode.{Mode}
 use Rattle.f95_lexer.specs.declared.splice.Mode.TheVariants.{Fresh, Goes, Inside}
 use Rattle.f95_lexer.specs.Characters.{is_blank, from_blank, is_comment, is_empty, AllPass}
 use Rattle.f95_lexer.specs.Lines.{onto, begins_with_feed, text_lines}
-use Rattle.f95_lexer.specs.Splicing.{Spliced, ends, put, breaks_rule, all_broken, fortieth, broken_at, scan, begun, line_read}
+use Rattle.a95_base.specs.Breaks.{broken_at}
+use Rattle.f95_lexer.specs.Splicing.{Spliced, ends, put, breaks_rule, all_broken, fortieth, scan, begun, line_read}
 use Rattle.f95_lexer.specs.Splicing.{too_long, splice, spliced, unfinished, line_breaks}
 use Rattle.f95_lexer.specs.Lexeme.{bytes_of}
 use Rattle.f95_lexer.specs.Spelling.{is_inside}

@@ -4,7 +4,7 @@ use Rattle.std.proofs.Common.{Err, IfOk, ◌<◌, refl, sym, ap, ◌∙◌, subs
 use Rattle.std.proofs.lemmas.Bool.{cases_lt}
 use Rattle.std.proofs.lemmas.List.{take-map, drop-map, take-append-drop}
 use Rattle.f95_lexer.specs.declared.character.Character.{Character}
-use Rattle.f95_lexer.specs.declared.character.Break.{Break}
+use Rattle.a95_base.specs.declared.breaks.Break.{Break}
 use Rattle.f95_lexer.specs.declared.lexeme.Lexeme.{Lexeme}
 use Rattle.f95_lexer.specs.declared.lexeme.Lexeme.TheVariants as lexeme
 use Rattle.f95_lexer.specs.declared.token.Statement.{Statement}
@@ -14,7 +14,8 @@ use Rattle.a95_base.specs.Lists.{Every, Member}
 use Rattle.f95_lexer.specs.Continuation.{Onward, Ended, GoesOn, StatementLine, HasLines, all_characters, BreaksRule}
 use Rattle.f95_lexer.specs.Limits.{longest_line}
 use Rattle.f95_lexer.specs.Lines.{feeds_of, text_lines}
-use Rattle.f95_lexer.specs.Splicing.{broken_at, spliced, unfinished, line_breaks}
+use Rattle.a95_base.specs.Breaks.{broken_at}
+use Rattle.f95_lexer.specs.Splicing.{spliced, unfinished, line_breaks}
 use Rattle.f95_lexer.specs.Statements.{Item, Ends, items_at, items_of, rules_of, token_breaks, lexemes_behind, lexemes_of}
 use Rattle.f95_lexer.specs.Statements.{statements_of}
 use Rattle.f95_lexer.specs.Rules.{Numbered, numbered, numbered_from, IsBroken, long_file, breaks_of}

@@ -6,9 +6,9 @@ use Rattle.f95_lexer.specs.declared.token.Token.{Token}
 use Rattle.f95_lexer.specs.declared.token.Statement.{Statement}
 use Rattle.f95_lexer.specs.Statements.{Item, Ends, Stands, Parts, Reading, reading, next, read_on, first_line, with_statement}
 use Rattle.f95_lexer.specs.Statements.{whole, parts_of, statements_of, lexemes_behind, items_of, items_at, rules_of, token_breaks}
-use Rattle.f95_lexer.specs.declared.character.Break.{Break}
+use Rattle.a95_base.specs.declared.breaks.Break.{Break}
 use Rattle.f95_lexer.specs.declared.lexeme.Found.{Found}
-use Rattle.f95_lexer.specs.Splicing.{broken_at}
+use Rattle.a95_base.specs.Breaks.{broken_at}
 use Rattle.f95_lexer.specs.Lexeme.{found_at, bytes_of}
 
 pub read_on-append : (r : Reading) (xs ys : List Item) → read_on r (xs ++ ys) ≡ read_on (read_on r xs) ys

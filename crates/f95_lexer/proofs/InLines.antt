@@ -7,10 +7,11 @@ use Rattle.a95_base.proofs.Lists.{Every-append, Every-weaker, each_has, Member-a
 use Rattle.f95_lexer.specs.Continuation.{opened, kept}
 use Rattle.f95_lexer.specs.Characters.{from_blank, is_comment, is_empty}
 use Rattle.f95_lexer.specs.declared.character.Character.{Character}
-use Rattle.f95_lexer.specs.declared.character.Break.{Break}
+use Rattle.a95_base.specs.declared.breaks.Break.{Break}
 use Rattle.f95_lexer.specs.declared.splice.Mode.{Mode}
 use Rattle.f95_lexer.specs.declared.splice.Mode.TheVariants.{Fresh, Goes, Inside}
-use Rattle.f95_lexer.specs.Splicing.{Spliced, ends, put, breaks_rule, all_broken, fortieth, broken_at, scan, begun, line_read}
+use Rattle.a95_base.specs.Breaks.{broken_at}
+use Rattle.f95_lexer.specs.Splicing.{Spliced, ends, put, breaks_rule, all_broken, fortieth, scan, begun, line_read}
 use Rattle.f95_lexer.specs.Splicing.{too_long, splice, spliced, unfinished, line_breaks}
 use Rattle.f95_lexer.specs.Rules.{Numbered, numbered, numbered_from}
 use Rattle.f95_lexer.specs.Lines.{text_lines}

@@ -7,21 +7,22 @@ use Rattle.a95_base.specs.Lists.{Member, Every}
 use Rattle.a95_base.proofs.Lists.{Member-from_map, Member-map, Member-append_left, Member-append_right, Member-append_cases}
 use Rattle.a95_base.proofs.Lists.{each_has}
 use Rattle.f95_lexer.specs.declared.character.Character.{Character}
-use Rattle.f95_lexer.specs.declared.character.Break.{Break}
+use Rattle.a95_base.specs.declared.breaks.Break.{Break}
 use Rattle.f95_lexer.specs.declared.lexeme.Lexeme.{Lexeme}
 use Rattle.f95_lexer.specs.declared.lexeme.Lexeme.TheVariants as lexeme
 use Rattle.f95_lexer.specs.Continuation.{Onward, Ended, GoesOn, StatementLine, HasLines}
 use Rattle.f95_lexer.specs.Lexeme.{is_dotted, found_at, bytes_of}
 use Rattle.f95_lexer.specs.Lines.{text_lines}
-use Rattle.f95_lexer.specs.Splicing.{broken_at, line_breaks, spliced}
+use Rattle.a95_base.specs.Breaks.{ComesFirst, IsLeast, AreBroken, broken_at, first_of}
+use Rattle.f95_lexer.specs.Splicing.{line_breaks, spliced}
 use Rattle.f95_lexer.specs.Statements.{Placed, lexemes_behind, lexemes_of, rules_of, if_clings, token_breaks}
-use Rattle.f95_lexer.specs.Rules.{IsLine, Stands, BreaksInLine, FindsNoLine, IsBroken, ComesFirst, IsLeast, breaks_of, first_of}
+use Rattle.f95_lexer.specs.Rules.{IsLine, Stands, BreaksInLine, FindsNoLine, IsBroken, breaks_of}
 use Rattle.f95_lexer.specs.Rules.{numbered_from, Refuses, RefusesBy}
 use Rattle.f95_lexer.specs.Rules as rules_of_phase
 use Rattle.a95_base.specs.declared.source.PhaseError.{PhaseError}
 use Rattle.a95_base.specs.declared.source.PhaseError.TheVariants.{Memory, Broken}
 use Rattle.f95_lexer.proofs.Members.{from_flat, into_flat}
-use Rattle.f95_lexer.proofs.First.{first_of_is}
+use Rattle.a95_base.proofs.First.{first_is_least}
 use Rattle.f95_lexer.proofs.TextRead.{has_lines, lines_spliced, LineBreak, of_line, no_further, break_sound, break_complete}
 use Rattle.f95_lexer.proofs.InLines.{IsContinuationBreak, IsLongLine, IsCounted, text_counted, line_break_is, long_line_broken}
 
@@ -189,14 +190,16 @@ pub nothing_broken : (bytes : List ℕ) (line rule : ℕ) → length bytes ≤ 1
 nothing_broken bytes line rule short none h =
     subst (λ l. Member l (broken_at line rule)) none (broken_is_listed bytes line rule short h)
 
-pub first_is_least : (bytes : List ℕ) (line rule : ℕ) → length bytes ≤ 1048576
-    → first_of (breaks_of bytes) ≡ Some (broken_at line rule) → IsLeast bytes line rule
-first_is_least bytes line rule short e =
-    let f = first_of_is (breaks_of bytes) (broken_at line rule) e in
-    record {
-      broken = listed_is_broken bytes (broken_at line rule) f.among;
-      least = λ l. λ r. λ h. (f.before (broken_at l r) (broken_is_listed bytes l r short h)).order;
-    }
+-- short bytes break exactly what is listed
+are_listed : (bytes : List ℕ) → length bytes ≤ 1048576 → AreBroken (IsBroken bytes) (breaks_of bytes)
+are_listed bytes short = record {
+  sound = λ b. listed_is_broken bytes b;
+  complete = λ line. λ rule. broken_is_listed bytes line rule short;
+}
+
+pub first_listed : (bytes : List ℕ) (line rule : ℕ) → length bytes ≤ 1048576
+    → first_of (breaks_of bytes) ≡ Some (broken_at line rule) → IsLeast (IsBroken bytes) line rule
+first_listed bytes line rule short e = first_is_least (IsBroken bytes) (breaks_of bytes) (broken_at line rule) (are_listed bytes short) e
 
 record IsPlaced (p : Placed) : Type 0 where
   counted : 1 ≤ p.line
@@ -256,12 +259,12 @@ first_of_all bytes line rule (rules_of_phase.number_runs_on value s) =
 first_of_all bytes line rule (rules_of_phase.no_dotted_word w s not_one) =
     top line 10 (stands_counted bytes line (lexeme.Pointed w) s) (omega arith)
 
-pub long_is_least : (bytes : List ℕ) → 1048576 < length bytes → IsLeast bytes 1 1
+pub long_is_least : (bytes : List ℕ) → 1048576 < length bytes → IsLeast (IsBroken bytes) 1 1
 long_is_least bytes long = record { broken = rules_of_phase.long_file long; least = first_of_all bytes }
 
 refuses : (bytes : List ℕ) (e : PhaseError) → length bytes ≤ 1048576 → RefusesBy (first_of (breaks_of bytes)) e → Refuses bytes e
 refuses bytes Memory short h = tt
-refuses bytes (Broken line rule) short h = first_is_least bytes line.0 rule.0 short h
+refuses bytes (Broken line rule) short h = first_listed bytes line.0 rule.0 short h
 
 pub refused_by : {T : Type 0} (bytes : List ℕ) (r : Result T PhaseError) → length bytes ≤ 1048576
     → IfErr r (λ e. RefusesBy (first_of (breaks_of bytes)) e) → IfErr r (Refuses bytes)

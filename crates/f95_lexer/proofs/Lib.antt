@@ -4,7 +4,6 @@ mod Capped
 mod Continued
 mod Cut
 mod Cutting
-mod First
 mod Gathering
 mod InLines
 mod Judging

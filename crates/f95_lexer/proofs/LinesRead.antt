@@ -4,7 +4,7 @@ use Rattle.std.proofs.Common.{refl, sym, ap, ◌∙◌, subst, inl, ⊎_elim, ar
 use Rattle.std.proofs.lemmas.Bool.Decides.{nat_tests}
 use Rattle.a95_base.specs.Lists.{Member}
 use Rattle.a95_base.proofs.Lists.{Member-append_left, Member-append_right, Member-append_cases}
-use Rattle.f95_lexer.specs.declared.character.Break.{Break}
+use Rattle.a95_base.specs.declared.breaks.Break.{Break}
 use Rattle.f95_lexer.specs.declared.splice.Mode.{Mode}
 use Rattle.f95_lexer.specs.declared.splice.Mode.TheVariants.{Fresh, Goes, Inside}
 use Rattle.f95_lexer.specs.Characters.{from_blank, is_empty, is_comment}
@@ -15,7 +15,8 @@ use Rattle.f95_lexer.specs.Continuation.{open_text, no_second}
 use Rattle.f95_lexer.specs.Continuation as continuation
 use Rattle.a95_base.specs.Rules as refusal
 use Rattle.f95_lexer.specs.Limits.{too_many_lines}
-use Rattle.f95_lexer.specs.Splicing.{Spliced, put, broken_at, fortieth, all_broken, scan, begun, line_read}
+use Rattle.a95_base.specs.Breaks.{broken_at}
+use Rattle.f95_lexer.specs.Splicing.{Spliced, put, fortieth, all_broken, scan, begun, line_read}
 use Rattle.f95_lexer.specs.Splicing as splicing
 use Rattle.f95_lexer.proofs.Bodies.{code_of, body_of, continued_of, ends_here, has_body, body_is, IsContext, comment_code}
 use Rattle.f95_lexer.proofs.Bodies.{text_code, mode_at, open_break, said, scan_is}

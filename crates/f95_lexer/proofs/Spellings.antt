@@ -12,7 +12,7 @@ use Rattle.f95_lexer.specs.declared.token.Token.TheVariants as token
 use Rattle.f95_lexer.specs.Characters.{is_blank, lower}
 use Rattle.f95_lexer.specs.Lexeme.{bytes_of, found, found_at, is_dotted, value_from}
 use Rattle.f95_lexer.specs.declared.token.Mark.{Mark}
-use Rattle.f95_lexer.specs.Splicing.{broken_at}
+use Rattle.a95_base.specs.Breaks.{broken_at}
 use Rattle.f95_lexer.specs.Statements.{Item, Ends, Stands, items_at, items_of, rules_of, token_breaks, lexemes_behind}
 use Rattle.f95_lexer.specs.Spelling.{IsGap, Spells, SpellsToken, SpellsWord, SpellsNumber, SpellsText, SpellsDotted, SpellsMark}
 use Rattle.f95_lexer.specs.Spelling.{Spelled, nothing, next, doubled, symbol_text}

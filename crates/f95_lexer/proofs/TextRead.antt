@@ -4,7 +4,7 @@ use Rattle.std.proofs.Common.{Some, None, refl, sym, ap, ◌∙◌, subst, inl, 
 use Rattle.std.proofs.lemmas.Bool.Decides.{nat_tests}
 use Rattle.a95_base.specs.Lists.{Member}
 use Rattle.a95_base.proofs.Lists.{Member-append_left, Member-append_right, Member-append_cases}
-use Rattle.f95_lexer.specs.declared.character.Break.{Break}
+use Rattle.a95_base.specs.declared.breaks.Break.{Break}
 use Rattle.f95_lexer.specs.declared.splice.Mode.{Mode}
 use Rattle.f95_lexer.specs.Characters.{from_blank, is_empty, is_comment}
 use Rattle.f95_lexer.specs.Continuation.{open_behind, HasBody, Onward, Ended, GoesOn, context, continuation_number, StatementLine}
@@ -15,7 +15,8 @@ use Rattle.f95_lexer.specs.Continuation as continuation
 use Rattle.a95_base.specs.Rules as refusal
 use Rattle.f95_lexer.specs.Limits.{longest_line}
 use Rattle.f95_lexer.specs.Lines.{text_lines}
-use Rattle.f95_lexer.specs.Splicing.{Spliced, broken_at, line_read, too_long, splice, spliced, unfinished, line_breaks}
+use Rattle.a95_base.specs.Breaks.{broken_at}
+use Rattle.f95_lexer.specs.Splicing.{Spliced, line_read, too_long, splice, spliced, unfinished, line_breaks}
 use Rattle.f95_lexer.specs.Splicing as splicing
 use Rattle.f95_lexer.proofs.Bodies.{code_of, body_of, continued_of, has_body, body_is, IsContext, open_context}
 use Rattle.f95_lexer.proofs.LinesRead.{mode_of, IsSpliced, read_spliced}

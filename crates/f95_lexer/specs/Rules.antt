@@ -1,10 +1,10 @@
 -- The ten rules of refusal of this phase, each with the line on which it is broken.
-use Rattle.std.specs.Prelude.{◌≡◌, ℕ, ℤ, ◌+◌, ◌<◌, ◌≤◌, ◌⊎◌, ◌==◌, ◌&&◌, ◌||◌, nat_lt, nat_le, if◌then◌else◌, Some, Bool, true}
+use Rattle.std.specs.Prelude.{◌≡◌, ℕ, ℤ, ◌+◌, ◌<◌, ◌≤◌, ◌⊎◌, Some, true}
 use Rattle.std.specs.Prelude.{false, List, [], ◌∷◌, ◌++◌, length, Option, None}
 use Rattle.a95_base.specs.Lists.{Member}
 use Rattle.a95_base.specs.declared.source.PhaseError.{PhaseError}
 use Rattle.a95_base.specs.declared.source.PhaseError.TheVariants.{Memory, Broken}
-use Rattle.f95_lexer.specs.declared.character.Break.{Break}
+use Rattle.a95_base.specs.declared.breaks.Break.{Break}
 use Rattle.f95_lexer.specs.declared.lexeme.Lexeme.{Lexeme}
 use Rattle.f95_lexer.specs.declared.lexeme.Lexeme.TheVariants as lexeme
 use Rattle.f95_lexer.specs.Continuation.{Onward, GoesOn, StatementLine, HasLines, all_characters, BreaksRule}
@@ -13,7 +13,8 @@ use Rattle.a95_base.specs.Rules as refusal
 use Rattle.a95_base.specs.Limits.{longest_word}
 use Rattle.f95_lexer.specs.Limits.{longest_file, longest_line}
 use Rattle.f95_lexer.specs.Lines.{text_lines}
-use Rattle.f95_lexer.specs.Splicing.{broken_at, line_breaks}
+use Rattle.a95_base.specs.Breaks.{IsLeast, broken_at}
+use Rattle.f95_lexer.specs.Splicing.{line_breaks}
 use Rattle.f95_lexer.specs.Statements.{lexemes_of, lexemes_behind, token_breaks}
 
 -- a line with its number
@@ -75,35 +76,14 @@ pub data IsBroken (bytes : List ℕ) : ℕ → ℕ → Type 0 where
   no_dotted_word : {line : ℕ} (w : List ℕ) → Stands bytes line (lexeme.Pointed w) → is_dotted w ≡ false
       → IsBroken bytes line refusal.unknown_dotted_word
 
--- a line and a rule come before another line and rule, or are the same
-abbrev pub ComesFirst : ℕ → ℕ → ℕ → ℕ → Type 0
-ComesFirst line rule other_line other_rule = (line < other_line) ⊎ ((line ≡ other_line) × (rule ≤ other_rule))
-
--- of all that the bytes break, the first line and on it the least rule
-pub record IsLeast (bytes : List ℕ) (line rule : ℕ) : Type 0 where
-  pub broken : IsBroken bytes line rule
-  pub least : (other_line other_rule : ℕ) → IsBroken bytes other_line other_rule → ComesFirst line rule other_line other_rule
-
 -- what a refusal of these bytes says
 abbrev pub Refuses : List ℕ → PhaseError → Type 0
 Refuses bytes Memory = Unit {0}
-Refuses bytes (Broken line rule) = IsLeast bytes line.0 rule.0
+Refuses bytes (Broken line rule) = IsLeast (IsBroken bytes) line.0 rule.0
 
 -- Below, for the parts of the code: all that the bytes break, but for the length of the file, as one list.
 abbrev pub breaks_of : List ℕ → List Break
 breaks_of bytes = line_breaks bytes ++ token_breaks (lexemes_of bytes)
-
--- the first of some breaks
-abbrev pub comes_first : Break → Break → Bool
-comes_first a b = nat_lt a.line b.line || (a.line == b.line && nat_le a.rule b.rule)
-
-abbrev pub first_from : Break → List Break → Break
-first_from b [] = b
-first_from b (c ∷ cs) = first_from (if comes_first b c then b else c) cs
-
-abbrev pub first_of : List Break → Option Break
-first_of [] = None
-first_of (b ∷ bs) = Some (first_from b bs)
 
 abbrev pub RefusesBy : Option Break → PhaseError → Type 0
 RefusesBy first Memory = Unit {0}

@@ -1,7 +1,8 @@
 -- What comments and continuations leave of the lines of a text: one run of characters, in which a line feed ends each statement.
 use Rattle.std.specs.Prelude.{ℕ, ◌+◌, ◌-◌, ◌&&◌, ◌==◌, nat_lt, List, [], ◌∷◌, ◌++◌, length, Option, Some, None, if◌then◌else◌}
 use Rattle.f95_lexer.specs.declared.character.Character.{Character}
-use Rattle.f95_lexer.specs.declared.character.Break.{Break}
+use Rattle.a95_base.specs.declared.breaks.Break.{Break}
+use Rattle.a95_base.specs.Breaks.{broken_at}
 use Rattle.f95_lexer.specs.declared.splice.Mode.{Mode}
 use Rattle.f95_lexer.specs.declared.splice.Mode.TheVariants.{Fresh, Goes, Inside}
 use Rattle.f95_lexer.specs.declared.splice.Next.{Next}
@@ -20,9 +21,6 @@ pub record Spliced : Type 0 where
 
 abbrev pub ends : Mode → Spliced
 ends m = record { text = []; breaks = []; mode = m }
-
-abbrev pub broken_at : ℕ → ℕ → Break
-broken_at line r = record { line = line; rule = r }
 
 -- the character c on that line, and then the rest
 abbrev pub put : ℕ → ℕ → Spliced → Spliced

@@ -2,7 +2,7 @@
 use Rattle.std.specs.Prelude.{ℕ, Bool, zero, suc, List, [], ◌∷◌, ◌++◌, length, map, Some, None, nat_lt, if◌then◌else◌}
 use Rattle.std.specs.List.{flat_map}
 use Rattle.f95_lexer.specs.declared.character.Character.{Character}
-use Rattle.f95_lexer.specs.declared.character.Break.{Break}
+use Rattle.a95_base.specs.declared.breaks.Break.{Break}
 use Rattle.f95_lexer.specs.declared.lexeme.Lexeme.{Lexeme}
 use Rattle.f95_lexer.specs.declared.lexeme.Lexeme.TheVariants as lexeme
 use Rattle.f95_lexer.specs.declared.token.Token.{Token}
@@ -11,7 +11,8 @@ use Rattle.f95_lexer.specs.declared.token.Statement.{Statement}
 use Rattle.f95_lexer.specs.Lexeme.{bytes_of, found_at, is_dotted}
 use Rattle.a95_base.specs.Rules as refusal
 use Rattle.a95_base.specs.Limits.{longest_word}
-use Rattle.f95_lexer.specs.Splicing.{broken_at, spliced}
+use Rattle.a95_base.specs.Breaks.{broken_at}
+use Rattle.f95_lexer.specs.Splicing.{spliced}
 
 -- a lexeme on the line of its first character
 pub record Placed : Type 0 where

@@ -9,13 +9,6 @@ pub struct Character {
     pub line: u32,
 }
 
-/// A rule of refusal that is broken on that line.
-#[derive(Clone, Copy)]
-pub struct Break {
-    pub line: u32,
-    pub rule: u8,
-}
-
 pub fn is_blank(byte: u8) -> bool
     ensures { result ≡ is_blank byte }
 {

@@ -1,13 +1,13 @@
 //! Lexemes gathered into statements, with the rules that they break.
 ghost use Rattle.std.specs.Prelude.{◌≡◌, ◌++◌, ◌∷◌, [], map, drop, length, ◌≤◌, IfOk, OnOk};
-ghost use Rattle.f95_lexer.specs.Splicing.{broken_at};
+ghost use Rattle.a95_base.specs.Breaks.{broken_at};
 ghost use Rattle.f95_lexer.specs.Statements.{rules_of, items_at, items_of, token_breaks, lexemes_behind, statements_of};
 ghost use Rattle.f95_lexer.specs.Statements.{with_statement, first_line, read_on, reading};
 
-use crate::character::{Break, Character};
+use crate::character::Character;
 use crate::lexeme::{Lexeme, is_dotted, lexeme_at};
 use crate::token::{Statement, Token};
-use a95_base::{LONGEST_WORD, Line, Rule};
+use a95_base::{Break, LONGEST_WORD, Line, Rule};
 use sqlite_items::Items;
 use std::alloc::{AllocError, Global};
 use std::mem;

@@ -3,42 +3,15 @@ ghost use Rattle.std.specs.Prelude.{◌≡◌, ◌≤◌, ℕ, [], length, None,
 ghost use Rattle.f95_lexer.specs.Lines.{feeds_of};
 ghost use Rattle.f95_lexer.specs.Statements.{statements_of, items_of, lexemes_of};
 ghost use Rattle.f95_lexer.specs.Spelling.{Cuts};
-ghost use Rattle.f95_lexer.specs.Rules.{comes_first, first_from, first_of, breaks_of, IsBroken, Refuses, RefusesBy};
+ghost use Rattle.a95_base.specs.Breaks.{first_of};
+ghost use Rattle.f95_lexer.specs.Rules.{breaks_of, IsBroken, Refuses, RefusesBy};
 
-use crate::character::Break;
 use crate::gather::gather;
 use crate::limits::LONGEST_FILE;
 use crate::splice::{Splicer, splice};
 use crate::token::Statements;
-use a95_base::{Line, PhaseError, Rule};
+use a95_base::{Line, PhaseError, Rule, first_of};
 use std::alloc::Global;
-
-fn comes_first(a: Break, b: Break) -> bool
-    ensures { result ≡ comes_first a b }
-{
-    a.line < b.line || a.line == b.line && a.rule <= b.rule
-}
-
-fn first_from(first: Break, breaks: &[Break]) -> Break
-    ensures { result ≡ first_from first breaks.now }
-{
-    let mut first = first;
-    for b in breaks {
-        if !comes_first(first, *b) {
-            first = *b;
-        }
-    }
-    first
-}
-
-fn first_of(breaks: &[Break]) -> Option<Break>
-    ensures { result ≡ first_of breaks.now }
-{
-    match breaks {
-        [] => None,
-        [first, more @ ..] => Some(first_from(*first, more)),
-    }
-}
 
 fn feeds_of(bytes: &[u8]) -> usize
     ensures value { result ≡ feeds_of bytes.now }

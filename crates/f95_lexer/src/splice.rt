@@ -2,13 +2,14 @@
 ghost use Rattle.std.specs.Prelude.{◌≡◌, ◌+◌, ◌-◌, ◌++◌, ◌∷◌, ◌<◌, ◌≤◌, ◌^◌, [], length, IfOk, OnOk};
 ghost use Rattle.f95_lexer.specs.Continuation.{opened, kept, character};
 ghost use Rattle.f95_lexer.specs.Characters.{from_blank, is_comment, is_empty};
-ghost use Rattle.f95_lexer.specs.Splicing.{Spliced, broken_at, scan, scanned, begun, line_read, behind, fortieth, spliced};
+ghost use Rattle.a95_base.specs.Breaks.{broken_at};
+ghost use Rattle.f95_lexer.specs.Splicing.{Spliced, scan, scanned, begun, line_read, behind, fortieth, spliced};
 ghost use Rattle.f95_lexer.specs.Splicing.{line_breaks, too_long, unfinished};
 ghost use Rattle.f95_lexer.specs.Lines.{text_lines};
 
-use crate::character::{Break, Character, is_blank, is_delimiter};
+use crate::character::{Character, is_blank, is_delimiter};
 use crate::limits::{LONGEST_LINE, TOO_MANY_LINES};
-use a95_base::Rule;
+use a95_base::{Break, Rule};
 use bstr::{ByteSlice, Lines};
 use std::alloc::{AllocError, Global};
 

@@ -22,8 +22,8 @@ use Rattle.f95_tree.specs.Forms.{Word}
 use Rattle.f95_tree.specs.Spelling.{Text}
 use Rattle.f95_expressions.specs.declared.pending.Field.{Field}
 use Rattle.f95_expressions.specs.Machine.{collected, expression_of, whole, first_in, bracket, row}
-use Rattle.f95_statements.specs.Views.{is_nil, behind, behind_name, behind_keyword, behind_word, at_end, nothing_more, name_at_end}
-use Rattle.f95_statements.specs.Parts.{name_of, range_of}
+use Rattle.f95_parts.specs.Views.{is_nil, behind, behind_name, behind_keyword, behind_word, at_end, nothing_more, name_at_end}
+use Rattle.f95_parts.specs.Parts.{name_of, range_of}
 use Rattle.f95_statements.specs.Actions.{conditioned, headed, listed, assigned, action_of}
 use Rattle.f95_statements.specs.Declarations.{type_of, procedure_of, typed_form}
 

@@ -12,7 +12,7 @@ use Rattle.f95_tree.specs.declared.terminal.Operator.TheVariants as operator
 use Rattle.f95_tree.specs.declared.terminal.Relation.TheVariants as relation
 use Rattle.f95_tree.specs.declared.terminal.Punctuation.TheVariants as p
 use Rattle.f95_tree.specs.Forms.{Word}
-use Rattle.f95_statements.specs.Views.{is}
+use Rattle.f95_parts.specs.Views.{is}
 use Rattle.f95_parser.specs.Words.{Keywords, reserved}
 
 abbrev pub Text : Type 0

@@ -8,7 +8,7 @@ use Rattle.f95_tree.specs.declared.terminal.PrefixWord.TheVariants as prefix_wor
 use Rattle.f95_tree.specs.declared.terminal.BlockWord.TheVariants as block
 use Rattle.f95_tree.specs.declared.terminal.ActionWord.TheVariants as action
 use Rattle.f95_tree.specs.Forms.{Word}
-use Rattle.f95_statements.specs.Views.{is}
+use Rattle.f95_parts.specs.Views.{is}
 
 -- a keyword, or two that are joined
 abbrev pub Keywords : Type 0

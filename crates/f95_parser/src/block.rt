@@ -2,15 +2,13 @@
 
 ghost use Rattle.std.specs.Prelude.{◌≡◌, [], ◌∷◌, IfOk, option_map, option_and_then};
 ghost use Rattle.f95_expressions.specs.Machine.{row, expression_of, whole, first_in};
-ghost use Rattle.f95_statements.specs.Views.{nothing_more};
+ghost use Rattle.f95_parts.specs.Views.{nothing_more};
 ghost use Rattle.f95_parser.specs.Reading.{whole_condition, is_then, if_block, select_by, select_of, index_of, counted_by, counted_in, counted, while_of, control_by, controlled, do_of, opened_by, labelled, case_in, case_of, else_if, else_where, else_of, end_block};
 
-use a95_base::Bytes;
-use f95_expressions::{Closed, Field, Spread, Stack, bracket, expression_of, row, whole};
-use f95_statements::{
-    Condition, behind, behind_keyword, behind_word, collected, conditioned, is_nil, name_at_end,
-    spread_expression,
-};
+use a95_base::{Bytes, Stack};
+use f95_expressions::{Closed, Field, Spread, bracket, expression_of, row, whole};
+use f95_parts::{behind, behind_keyword, behind_word, collected, is_nil, spread_expression};
+use f95_statements::{Condition, conditioned, name_at_end};
 use f95_tree::{BlockForm, BlockWord, Control, Expression, Keyword, Punctuation, Terminal};
 use std::alloc::{AllocError, Global};
 

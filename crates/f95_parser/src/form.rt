@@ -1,17 +1,17 @@
 //! All forms, as `specs/Reading` says.
 
 ghost use Rattle.std.specs.Prelude.{◌≡◌, [], ◌∷◌, IfOk, option_map, option_and_then};
-ghost use Rattle.f95_statements.specs.Views.{nothing_more, behind_name, at_end};
+ghost use Rattle.f95_parts.specs.Views.{nothing_more, behind_name, at_end};
 ghost use Rattle.f95_statements.specs.Actions.{action_of};
 ghost use Rattle.f95_statements.specs.Declarations.{procedure_of};
 ghost use Rattle.f95_parser.specs.Reading.{end_keyed, end_of, only_of, use_named, use_of, implicit_of, unit_by, if_by, where_by, forall_by, block_form, keyed_form, label_of, named_form, form_of};
 
 use crate::block::{case_of, do_of, else_of, end_block, is_then, labelled, select_of};
 use a95_base::Bytes;
+use f95_parts::{Keyed, Named, behind, behind_keyword, behind_name, behind_word, is_nil};
 use f95_statements::{
-    Condition, HeaderAt, Keyed, Named, action_of, assigned, behind, behind_keyword, behind_name,
-    behind_word, conditioned, headed, is_nil, listed, name_at_end, procedure_of, type_of,
-    typed_form,
+    Condition, HeaderAt, action_of, assigned, conditioned, headed, listed, name_at_end,
+    procedure_of, type_of, typed_form,
 };
 use f95_tree::{
     Action, BlockForm, BlockWord, Form, Keyword, Punctuation, Terminal, UnitForm, UnitWord,

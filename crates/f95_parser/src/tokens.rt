@@ -8,7 +8,7 @@ ghost use Rattle.f95_parser.specs.Rules.{most_open};
 use crate::words::reserved;
 use a95_base::Bytes;
 use f95_lexer::{Mark, Token};
-use f95_statements::is;
+use f95_parts::is;
 use f95_tree::{Literal, Operator, Punctuation, Relation, Terminal};
 use sqlite_items::Items;
 use std::alloc::{AllocError, Global};

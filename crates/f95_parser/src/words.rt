@@ -3,7 +3,7 @@
 ghost use Rattle.std.specs.Prelude.{◌≡◌, option_map};
 ghost use Rattle.f95_parser.specs.Words.{one, two, action_word, block_word, end_word, reserved, is_left_out_shape, is_left_out_trait, is_left_out_access, is_left_out_jump, is_left_out_transfer, is_left_out};
 
-use f95_statements::is;
+use f95_parts::is;
 use f95_tree::{ActionWord, BlockWord, Keyword, PrefixWord, TypeWord, UnitWord};
 
 /// A keyword, or two that are joined.

@@ -15,8 +15,8 @@ use Rattle.f95_expressions.specs.Machine.{bracket, items_of}
 use Rattle.f95_expressions.proofs.Lists.{by_test}
 use Rattle.f95_expressions.proofs.Read.{mapped, chained}
 use Rattle.f95_expressions.proofs.Found.{bracket_sound}
-use Rattle.f95_statements.specs.Views.{is, is_mark, as_name, behind, behind_name, behind_word}
-use Rattle.f95_statements.specs.Parts.{dims_of}
+use Rattle.f95_parts.specs.Views.{is, is_mark, as_name, behind, behind_name, behind_word}
+use Rattle.f95_parts.specs.Parts.{dims_of}
 use Rattle.f95_statements.specs.Declarations.{intent_named, behind_both, one_word, intent_at, closed_intent, intent_of, dimension_in, dimension_of, attribute_named, next_attribute, by_next, attributes_in, attributes_of}
 
 behind_less : (p : Punctuation) (ts rest : Text) → behind p ts ≡ Some rest → length rest < length ts

@@ -1,6 +1,2 @@
-pub mod PartLaws
 pub mod AttributeSteps
 pub mod PrefixSteps
-pub mod ViewLaws
-pub mod BoundLaws
-pub mod FieldLaws

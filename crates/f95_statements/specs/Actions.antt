@@ -23,8 +23,8 @@ use Rattle.f95_tree.specs.Forms.{Word}
 use Rattle.f95_tree.specs.Spelling.{Text}
 use Rattle.f95_expressions.specs.declared.pending.Field.{Field}
 use Rattle.f95_expressions.specs.Machine.{collected, within, expression_of, bracket, row}
-use Rattle.f95_statements.specs.Views.{is_nil, behind, behind_star, behind_name, behind_keyword, behind_literal, at_end, nothing_more, name_at_end}
-use Rattle.f95_statements.specs.Parts.{reference_of, name_of, argument_of, allocation_of, header_of, assignment_of}
+use Rattle.f95_parts.specs.Views.{is_nil, behind, behind_star, behind_name, behind_keyword, behind_literal, at_end, nothing_more, name_at_end}
+use Rattle.f95_parts.specs.Parts.{reference_of, name_of, argument_of, allocation_of, header_of, assignment_of}
 
 -- Brackets and rows.
 

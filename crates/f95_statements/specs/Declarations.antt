@@ -41,8 +41,8 @@ use Rattle.f95_expressions.specs.declared.pending.Field.{Field}
 use Rattle.f95_expressions.specs.declared.pending.Spread.{Spread}
 use Rattle.f95_expressions.specs.declared.pending.Spread.TheVariants as spread
 use Rattle.f95_expressions.specs.Machine.{lone, whole, collected, within, items_of, bracket, row}
-use Rattle.f95_statements.specs.Views.{is, is_nil, behind, behind_star, behind_name, behind_keyword, behind_literal, behind_word, nothing_more}
-use Rattle.f95_statements.specs.Parts.{dims_of, name_of, entity_of, spread_expression}
+use Rattle.f95_parts.specs.Views.{is, is_nil, behind, behind_star, behind_name, behind_keyword, behind_literal, behind_word, nothing_more}
+use Rattle.f95_parts.specs.Parts.{dims_of, name_of, entity_of, spread_expression}
 use Rattle.f95_statements.specs.Actions.{only, whole_bracket}
 
 -- Types.

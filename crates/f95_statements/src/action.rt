@@ -2,15 +2,16 @@
 
 ghost use Rattle.std.specs.Prelude.{◌≡◌, [], ◌∷◌, IfOk, option_map, option_and_then};
 ghost use Rattle.f95_expressions.specs.Machine.{collected, within, expression_of, bracket, row};
-ghost use Rattle.f95_statements.specs.Parts.{reference_of, name_of, argument_of, allocation_of, header_of, assignment_of};
-ghost use Rattle.f95_statements.specs.Views.{nothing_more, name_at_end, at_end, behind_literal};
+ghost use Rattle.f95_parts.specs.Parts.{reference_of, name_of, argument_of, allocation_of, header_of, assignment_of};
+ghost use Rattle.f95_parts.specs.Views.{nothing_more, name_at_end, at_end, behind_literal};
 ghost use Rattle.f95_statements.specs.Actions.{whole_bracket, only, conditioned, headed, listed, listed_behind, assigned, behind_unit, arguments_of, call_of, allocate_of, deallocate_of, print_of, write_of, read_of, read_unit, stop_code, stop_of, action_by, where_of, forall_of, blocked, action_of};
 
-use crate::bounds::header_of;
-use crate::part::{Part, assignment_of, collected};
-use crate::view::{behind, behind_keyword, behind_name, behind_star, is_nil, parted};
-use a95_base::Bytes;
-use f95_expressions::{Closed, Field, Stack, bracket, expression_of, row, within};
+use a95_base::{Bytes, Stack};
+use f95_expressions::{Closed, Field, bracket, expression_of, row, within};
+use f95_parts::{
+    Part, assignment_of, behind, behind_keyword, behind_name, behind_star, collected, header_of,
+    is_nil, parted,
+};
 use f95_tree::{
     Action, ActionWord, Argument, Assignment, BlockWord, Expression, Header, Keyword, Literal,
     Punctuation, Terminal,

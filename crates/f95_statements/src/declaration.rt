@@ -2,15 +2,17 @@
 
 ghost use Rattle.std.specs.Prelude.{◌≡◌, [], ◌∷◌, IfOk, option_map, option_and_then};
 ghost use Rattle.f95_expressions.specs.Machine.{collected, bracket, row, items_of};
-ghost use Rattle.f95_statements.specs.Parts.{entity_of, dims_of};
+ghost use Rattle.f95_parts.specs.Parts.{entity_of, dims_of};
 ghost use Rattle.f95_statements.specs.Actions.{only};
 ghost use Rattle.f95_statements.specs.Declarations.{keyed_of, given_length, given_in, behind_len, behind_any, length_inside, as_number, starred_length, length_at, type_of, intent_named, behind_both, intent_at, one_word, intent_of, dimension_of, attribute_named, next_attribute, attributes_of, entities_of, no_initials, bare, declared, declaration_of};
 
 use crate::action::only;
-use crate::bounds::dims_of;
-use crate::part::{collected, spread_expression};
-use crate::view::{Named, behind, behind_name, behind_star, behind_word, is, parted};
-use f95_expressions::{Closed, Field, Stack, bracket, items_of, row, whole};
+use a95_base::Stack;
+use f95_expressions::{Closed, Field, bracket, items_of, row, whole};
+use f95_parts::{
+    Named, behind, behind_name, behind_star, behind_word, collected, dims_of, is, parted,
+    spread_expression,
+};
 use f95_tree::{
     Attribute, Declaration, Entity, Expression, Intent, Length, Literal, Punctuation, Terminal,
     TypeSpec, TypeWord,

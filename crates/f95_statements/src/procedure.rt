@@ -3,16 +3,17 @@
 ghost use Rattle.std.specs.Prelude.{◌≡◌, [], ◌∷◌, true, false, ◌&&◌, IfOk, MatchOption, option_map, option_and_then, map, reverse};
 ghost use Rattle.f95_tree.specs.WellFormed.{distinct, is_among, prefix_kind, well_heading};
 ghost use Rattle.f95_expressions.specs.Machine.{bracket};
-ghost use Rattle.f95_statements.specs.Views.{behind_keyword, nothing_more};
+ghost use Rattle.f95_parts.specs.Views.{behind_keyword, nothing_more};
 ghost use Rattle.f95_statements.specs.Actions.{whole_bracket};
 ghost use Rattle.f95_statements.specs.Declarations.{names_in, dummies_of, subroutine_of, result_name, result_of, function_in, function_of, heading_by, prefix_word, as_prefix, prefixes_of, next_prefix, kept, procedure, headed_procedure, procedure_behind, typed_procedure, procedure_keyed, procedure_from, procedure_of, is_keyed, typed_form};
 
 use crate::action::whole_bracket;
 use crate::declaration::{Typed, declaration_of, type_of};
-use crate::part::collected;
-use crate::view::{Keyed, Named, behind, behind_keyword, behind_name, behind_word, is_nil, parted};
-use a95_base::Bytes;
-use f95_expressions::{Closed, Field, Stack, bracket, within};
+use a95_base::{Bytes, Stack};
+use f95_expressions::{Closed, Field, bracket, within};
+use f95_parts::{
+    Keyed, Named, behind, behind_keyword, behind_name, behind_word, collected, is_nil, parted,
+};
 use f95_tree::{
     Form, Heading, Keyword, Prefix, PrefixWord, Procedure, Punctuation, Terminal, UnitForm,
     UnitWord,

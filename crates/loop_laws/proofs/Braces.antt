@@ -9,7 +9,8 @@ use Rattle.loop_tree.specs.declared.tree.Stmt.{Stmt}
 use Rattle.loop_tree.specs.Lines.{flat, flats}
 use Rattle.loop_tree.specs.State.{Brace, Choice, Upward, Downward, Forever}
 use Rattle.loop_tree.specs.Values.{number_at, holds}
-use Rattle.loop_tree.specs.Machine.{step, step_at, do_line, row_line, control_line, break_line, continue_line, if_line, else_line, for_up_line, for_down_line, forever_line, close_line, exits, loop_end, Place, rest_of, first_exit, skip_choice, quiet, turn}
+use Rattle.a95_base.specs.Lists.{rest_of}
+use Rattle.loop_tree.specs.Machine.{step, step_at, do_line, row_line, control_line, break_line, continue_line, if_line, else_line, for_up_line, for_down_line, forever_line, close_line, exits, loop_end, Place, first_exit, skip_choice, quiet, turn}
 use Rattle.loop_tree.proofs.Balanced.{exits-flats, exits-body, exits-branch, behind-body}
 use Rattle.loop_tree.proofs.Trees.{flat-Row, flat-If, flat-IfElse, flat-ForUp, flat-ForDown, flat-Forever}
 use Rattle.loop_laws.specs.At.{at, value_of, with_index}

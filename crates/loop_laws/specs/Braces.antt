@@ -14,7 +14,8 @@ use Rattle.loop_tree.specs.declared.tree.Function.{Function}
 use Rattle.loop_tree.specs.Lines.{flats}
 use Rattle.loop_tree.specs.State.{Brace, Choice, Upward, Downward, Forever, Next}
 use Rattle.loop_tree.specs.Values.{number_at, holds}
-use Rattle.loop_tree.specs.Machine.{step, exits, loop_end, Place, rest_of, quiet, turn}
+use Rattle.a95_base.specs.Lists.{rest_of}
+use Rattle.loop_tree.specs.Machine.{step, exits, loop_end, Place, quiet, turn}
 use Rattle.loop_laws.specs.At.{Variables, at, value_of, with_index}
 
 -- ---- the lines of statements

@@ -20,7 +20,8 @@ use Rattle.loop_tree.specs.declared.tree.Function.{Function}
 use Rattle.loop_tree.specs.Lines.{flats}
 use Rattle.loop_tree.specs.State.{Brace, Choice, Upward, Downward, Forever, Comes}
 use Rattle.loop_tree.specs.Values.{number_at, holds}
-use Rattle.loop_tree.specs.Machine.{Place, rest_of}
+use Rattle.a95_base.specs.Lists.{rest_of}
+use Rattle.loop_tree.specs.Machine.{Place}
 use Rattle.loop_tree.specs.Run.{configuration}
 use Rattle.loop_laws.specs.At.{Variables, frame_of, at, value_of, with_index, called, entered, returned}
 use Rattle.loop_laws.specs.Rows.{Gives, Leaves}

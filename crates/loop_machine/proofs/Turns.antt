@@ -13,7 +13,8 @@ use Rattle.loop_tree.specs.declared.tree.CodeLine.TheVariants as code
 use Rattle.loop_tree.specs.declared.tree.Function.{Function}
 use Rattle.loop_tree.specs.State.{Brace, Upward, State, Next, Goes, Ends, with_at, with_rest, with_blocks, set_int, set_index}
 use Rattle.loop_tree.specs.Values.{number_at, block_at, atom_in, atom_of, int_value}
-use Rattle.loop_tree.specs.Machine.{rest_of, again, up_again, close_line, given, changed, store_int, change_line, int_line}
+use Rattle.a95_base.specs.Lists.{rest_of}
+use Rattle.loop_tree.specs.Machine.{again, up_again, close_line, given, changed, store_int, change_line, int_line}
 use Rattle.loop_tree.specs.Machine.{block_line, at_line, control_line, row_line, do_line, step_at, step}
 use Rattle.loop_rows.specs.declared.state.OpenBrace.TheVariants as open_brace
 use Rattle.loop_rows.specs.declared.state.Core.{Core}

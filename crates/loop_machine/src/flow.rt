@@ -5,14 +5,16 @@ ghost use Rattle.loop_tree.specs.State.{set_index, with_at};
 ghost use Rattle.loop_tree.specs.Values.{number_at, atom_in, atom_of};
 ghost use Rattle.loop_tree.specs.Machine.{leave, if_line, skip_choice, else_line, begin_loop, again, at_line, for_up_line};
 ghost use Rattle.loop_tree.specs.Machine.{for_down_line, forever_line, close_line, break_line, continue_line, exits, exit_of};
-ghost use Rattle.loop_tree.specs.Machine.{behind, rest_of, first_exit, loop_end};
+ghost use Rattle.a95_base.specs.Lists.{rest_of};
+ghost use Rattle.loop_tree.specs.Machine.{behind, first_exit, loop_end};
 ghost use Rattle.loop_rows.specs.Shown.{lines_in, brace, shown, is_else, begins_choice};
 ghost use Rattle.loop_machine.specs.Moves.{Did};
 
 use crate::moves::{Move, halts};
+use a95_base::Stack;
 use loop_heap::Halt;
 use loop_rows::{Core, OpenBrace, Routine, begins_other, exit, next, outer, past};
-use loop_tree::{Atom, Stack};
+use loop_tree::Atom;
 use loop_values::{Numbers, difference, sum};
 use std::alloc::AllocError;
 

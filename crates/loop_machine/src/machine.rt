@@ -9,11 +9,11 @@ ghost use Rattle.loop_machine.specs.Running.{Running, left_by, RunsTo, Answers};
 
 use crate::end::{End, left_by};
 use crate::run::go;
-use a95_base::{FaultKind, Memory};
+use a95_base::{FaultKind, Memory, Stack};
 use io_edge::Sink;
 use loop_heap::{Blocks, Halt};
 use loop_rows::{Active, Core, Routine};
-use loop_tree::{Function, LoopProgram, Stack};
+use loop_tree::{Function, LoopProgram};
 use loop_values::{Links, Numbers, Words};
 use record_io::Record;
 use sqlite_items::Items;

@@ -10,7 +10,8 @@ use Rattle.loop_rows.specs.Shown.{lines_or_none, lines_in, is_else, brace, begin
 use Rattle.loop_rows.specs.declared.state.OpenBrace.{OpenBrace}
 use Rattle.loop_rows.specs.declared.state.OpenBrace.TheVariants as open_brace
 use Rattle.loop_tree.specs.State.{State, Choice, with_rest, with_place}
-use Rattle.loop_tree.specs.Machine.{loop_end, skip_choice, rest_of, first_exit, exit_of, exits}
+use Rattle.a95_base.specs.Lists.{rest_of}
+use Rattle.loop_tree.specs.Machine.{loop_end, skip_choice, first_exit, exit_of, exits}
 use Rattle.loop_rows.specs.declared.routine.Exit.{Exit}
 use Rattle.loop_rows.specs.Exits.{own_or, passed, open_before, first_exit_of, table_from, table_of}
 

@@ -2,7 +2,7 @@
 use Rattle.std.specs.Prelude.{ℕ, ◌+◌, List, [], ◌∷◌, length}
 use Rattle.loop_tree.specs.declared.tree.CodeLine.{CodeLine}
 use Rattle.loop_tree.specs.declared.tree.CodeLine.TheVariants as code
-use Rattle.loop_tree.specs.Machine.{rest_of}
+use Rattle.a95_base.specs.Lists.{rest_of}
 use Rattle.loop_rows.specs.declared.routine.Exit.{Exit}
 
 -- the place where the innermost of these braces closes, or that behind all lines

@@ -9,9 +9,9 @@ ghost use Rattle.loop_rows.specs.Callees.{accepts, entered, with_argument};
 use crate::routine::Routine;
 use crate::state::{Active, Core};
 use crate::values::{atom, block, text};
-use a95_base::Bytes;
+use a95_base::{Bytes, Stack};
 use loop_heap::Link;
-use loop_tree::{Argument, Letter, Reference, Stack};
+use loop_tree::{Argument, Letter, Reference};
 use loop_values::{Links, Numbers, Words};
 use std::alloc::AllocError;
 

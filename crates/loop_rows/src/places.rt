@@ -1,6 +1,7 @@
 //! Places in the lines of a program's functions.
 ghost use Rattle.std.specs.Prelude.{◌≡◌, ◌∷◌, ◌+◌, ◌<◌, ◌^◌, [], drop, OnSome, MatchOption};
-ghost use Rattle.loop_tree.specs.Machine.{exits, exit_of, behind, rest_of, first_exit};
+ghost use Rattle.a95_base.specs.Lists.{rest_of};
+ghost use Rattle.loop_tree.specs.Machine.{exits, exit_of, behind, first_exit};
 ghost use Rattle.loop_rows.specs.Shown.{lines_in, is_else};
 
 use crate::routine::Routine;

@@ -1,10 +1,12 @@
 //! Functions made ready to run.
 ghost use Rattle.std.specs.Prelude.{◌≡◌, ◌∷◌, ◌+◌, ◌<◌, ◌^◌, [], drop, OnSome, length, IfOk, OnOk, MatchOption};
 ghost use Rattle.loop_tree.specs.Lines.{lines_of};
-ghost use Rattle.loop_tree.specs.Machine.{exits, exit_of, rest_of, first_exit};
+ghost use Rattle.a95_base.specs.Lists.{rest_of};
+ghost use Rattle.loop_tree.specs.Machine.{exits, exit_of, first_exit};
 ghost use Rattle.loop_rows.specs.Exits.{opened, passed, first_exit_of, table_of};
 
-use loop_tree::{BlockRow, CodeLine, ControlRow, Function, IntValue, Letter, Row, Stack};
+use a95_base::Stack;
+use loop_tree::{BlockRow, CodeLine, ControlRow, Function, IntValue, Letter, Row};
 use sqlite_items::Items;
 use std::alloc::{AllocError, Global};
 use std::marker::Model;

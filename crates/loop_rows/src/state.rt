@@ -1,7 +1,7 @@
 //! The machine's own state. `specs/Shown.antt` says what state of the definition it stands for.
-use a95_base::FaultKind;
+use a95_base::{FaultKind, Stack};
 use loop_heap::{Blocks, Halt};
-use loop_tree::{Atom, Stack};
+use loop_tree::Atom;
 use loop_values::{Links, Numbers, Words};
 use record_io::Record;
 use sqlite_items::Items;

@@ -7,7 +7,8 @@ ghost use Rattle.loop_text.specs.Reader.{nothing_read, Took, letters_on, letter_
 use crate::atoms::{number, skip};
 use crate::guess::guess;
 use crate::level::{Level, LevelKind};
-use loop_tree::{CodeLine, ControlRow, Function, Letter, Row, Stack, Stmt};
+use a95_base::Stack;
+use loop_tree::{CodeLine, ControlRow, Function, Letter, Row, Stmt};
 use loop_writer::put_head;
 use sqlite_items::{Boxed, Items};
 use std::alloc::{AllocError, Global};

@@ -7,7 +7,8 @@ use Rattle.loop_tree.specs.declared.tree.Stmt.TheFolds.{fold-roll-Stmt, ind-Stmt
 use Rattle.loop_tree.specs.declared.tree.CodeLine.{CodeLine}
 use Rattle.loop_tree.specs.declared.tree.CodeLine.TheVariants as code
 use Rattle.loop_tree.specs.Lines.{joined, flat_at, flat, flats}
-use Rattle.loop_tree.specs.Machine.{exits, rest_of, first_exit, behind}
+use Rattle.a95_base.specs.Lists.{rest_of}
+use Rattle.loop_tree.specs.Machine.{exits, first_exit, behind}
 
 abbrev pub Passes : Stmt → Type 0
 Passes s = (r : List CodeLine) → exits (flat s ++ r) ≡ exits r

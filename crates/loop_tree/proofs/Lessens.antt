@@ -25,7 +25,8 @@ use Rattle.loop_tree.specs.declared.row.TextValue.{TextValue}
 use Rattle.loop_tree.specs.State.{Brace, Choice, Upward, Downward, Forever, Frame, State, Stuck, Next, Goes, Ends, with_rest, set_int, set_index, set_text}
 use Rattle.loop_tree.specs.Values.{number_at, atom_of, holds, int_value, text_value}
 use Rattle.loop_tree.specs.Machine as machine
-use Rattle.loop_tree.specs.Machine.{given, rest_of, first_exit, exit_of, behind, exits, loop_end, Place, back_to, leave, begin_loop, again, skip_choice, if_line, for_up_line, for_down_line, forever_line, close_line, else_line, take_line, int_line, text_line, change_line, free_line, new_ints_line, new_texts_line, same_ints_line, same_texts_line, block_line, enter_if, callable, is_usable, call_line, break_line, continue_line, at_line, control_line, put_line, record_line, row_line, do_line, step_at, step}
+use Rattle.a95_base.specs.Lists.{rest_of}
+use Rattle.loop_tree.specs.Machine.{given, first_exit, exit_of, behind, exits, loop_end, Place, back_to, leave, begin_loop, again, skip_choice, if_line, for_up_line, for_down_line, forever_line, close_line, else_line, take_line, int_line, text_line, change_line, free_line, new_ints_line, new_texts_line, same_ints_line, same_texts_line, block_line, enter_if, callable, is_usable, call_line, break_line, continue_line, at_line, control_line, put_line, record_line, row_line, do_line, step_at, step}
 
 -- ---- what is left
 

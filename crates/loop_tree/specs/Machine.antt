@@ -8,6 +8,7 @@ use Rattle.a95_base.specs.Integer.{wrapped}
 use Rattle.a95_base.specs.Outcome.{Ended, Faulted}
 use Rattle.a95_base.specs.Input.{Reading, Integer, NoMore, NoInteger, next_value, record_length}
 use Rattle.a95_base.specs.Record.{record_text}
+use Rattle.a95_base.specs.Lists.{rest_of}
 use Rattle.loop_tree.specs.declared.stuck.StuckState.{StuckState}
 use Rattle.loop_tree.specs.declared.stuck.StuckState.TheVariants as stuck
 use Rattle.loop_tree.specs.declared.atom.Letter.{Letter}
@@ -49,10 +50,6 @@ given (Ok value) next = quiet (next value)
 given (Err why) next = Ends (Stuck why)
 
 -- ---- where a brace is closed
-
-abbrev pub rest_of : {A : Type 0} → List A → List A
-rest_of [] = []
-rest_of (x ∷ xs) = xs
 
 -- for each open brace, innermost first, the lines from the one on that closes it
 unfoldable pub exits : List CodeLine → List (List CodeLine)

@@ -13,7 +13,6 @@ mod laws;
 mod program;
 mod row;
 mod row_text;
-mod stack;
 mod stuck;
 mod text;
 mod tree;
@@ -25,6 +24,5 @@ pub use laws::{
 };
 pub use program::LoopProgram;
 pub use row::{BlockRow, ControlRow, IntValue, RecordRow, Row, TextValue};
-pub use stack::Stack;
 pub use stuck::StuckState;
 pub use tree::{CodeLine, Function, Stmt};

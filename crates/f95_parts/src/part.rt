@@ -3,10 +3,10 @@
 ghost use Rattle.std.specs.Prelude.{◌≡◌, [], ◌∷◌, ◌++◌, IfOk, Option, option_map, option_and_then};
 ghost use Rattle.f95_expressions.specs.declared.pending.Field.{Field};
 ghost use Rattle.f95_expressions.specs.Machine.{collected, lone, whole, expression_of, items_of};
-ghost use Rattle.f95_statements.specs.Parts.{as_reference, reference_of, name_of, spread_expression, keyword_of, argument_of, filled, picked, dim_of, dims_of, dim_of_bounds, bound_of, bounds_of, bound_of_bounds, entity_named, entity_from, entity_of, allocation_named, allocation_of, range_of_bounds, range_from, range_of, index_of_bounds, index_from, index_of, assignment_from, assignment_of};
+ghost use Rattle.f95_parts.specs.Parts.{as_reference, reference_of, name_of, spread_expression, keyword_of, argument_of, filled, picked, dim_of, dims_of, dim_of_bounds, bound_of, bounds_of, bound_of_bounds, entity_named, entity_from, entity_of, allocation_named, allocation_of, range_of_bounds, range_from, range_of, index_of_bounds, index_from, index_of, assignment_from, assignment_of};
 
-use a95_base::Bytes;
-use f95_expressions::{Field, Spread, Stack, expression_of, lone, whole};
+use a95_base::{Bytes, Stack};
+use f95_expressions::{Field, Spread, expression_of, lone, whole};
 use f95_tree::{
     Allocation, Argument, Assignment, Bound, CaseRange, Dim, Entity, Expression, Index, Item,
     Reference,
@@ -68,7 +68,7 @@ pub fn reference_of(field: Field) -> Option<Reference>
 }
 
 impl Part for Reference {
-    ghost use Rattle.f95_statements.specs.Parts.{reference_of};
+    ghost use Rattle.f95_parts.specs.Parts.{reference_of};
 
     ghost taken = { reference_of };
 
@@ -79,7 +79,7 @@ impl Part for Reference {
 }
 
 impl Part for Bytes {
-    ghost use Rattle.f95_statements.specs.Parts.{name_of};
+    ghost use Rattle.f95_parts.specs.Parts.{name_of};
 
     ghost taken = { name_of };
 
@@ -128,7 +128,7 @@ fn argument_of(field: Field) -> Option<Argument>
 }
 
 impl Part for Argument {
-    ghost use Rattle.f95_statements.specs.Parts.{argument_of};
+    ghost use Rattle.f95_parts.specs.Parts.{argument_of};
 
     ghost taken = { argument_of };
 

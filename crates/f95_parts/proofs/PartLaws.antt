@@ -34,7 +34,7 @@ use Rattle.f95_expressions.specs.Machine.{lone, whole, name_in, name_in_referenc
 use Rattle.f95_expressions.proofs.Lists.{both, joined, onto}
 use Rattle.f95_expressions.proofs.Fields.{value_field, expression_field}
 use Rattle.f95_expressions.proofs.Read.{mapped, chained, lone_sound, whole_sound, value_sound, expression_sound}
-use Rattle.f95_statements.specs.Parts.{as_reference, reference_in, reference_of, name_of, spread_expression, keyword_of, argument, argument_of, assignment, assignment_from, assignment_of, dim_of, dim_in, dim_of_bounds, bound_of, bound_in, bound_of_bounds, range_of, range_from, range_of_bounds}
+use Rattle.f95_parts.specs.Parts.{as_reference, reference_in, reference_of, name_of, spread_expression, keyword_of, argument, argument_of, assignment, assignment_from, assignment_of, dim_of, dim_in, dim_of_bounds, bound_of, bound_in, bound_of_bounds, range_of, range_from, range_of_bounds}
 
 -- ---- expressions, references and names
 

@@ -28,8 +28,8 @@ use Rattle.f95_expressions.specs.declared.pending.Field.{Field}
 use Rattle.f95_expressions.specs.Fields.{field_text, well_field}
 use Rattle.f95_expressions.proofs.Lists.{both, joined}
 use Rattle.f95_expressions.proofs.Read.{mapped, chained}
-use Rattle.f95_statements.specs.Parts.{picked, filled, dim_of, dim_in, dim_of_bounds, dims_of, bound_of, bound_in, bound_of_bounds, bounds_of, reference_of, allocation, allocation_in, allocation_named, allocation_of}
-use Rattle.f95_statements.proofs.PartLaws.{reference_field, reference_sound, reference_again, reference_text, reference_well}
+use Rattle.f95_parts.specs.Parts.{picked, filled, dim_of, dim_in, dim_of_bounds, dims_of, bound_of, bound_in, bound_of_bounds, bounds_of, reference_of, allocation, allocation_in, allocation_named, allocation_of}
+use Rattle.f95_parts.proofs.PartLaws.{reference_field, reference_sound, reference_again, reference_text, reference_well}
 
 -- ---- dimensions
 

@@ -3,11 +3,11 @@
 ghost use Rattle.std.specs.Prelude.{◌≡◌, [], ◌∷◌, ◌++◌, length, IfOk, option_map, option_and_then};
 ghost use Rattle.f95_expressions.specs.declared.pending.Field.{Field};
 ghost use Rattle.f95_expressions.specs.Machine.{lone, whole, has_left, expression_of};
-ghost use Rattle.f95_statements.specs.Parts.{filled, picked, dim_of, dims_of, dim_of_bounds, bound_of, bounds_of, bound_of_bounds, entity, entity_named, entity_from, entity_of, allocation_named, allocation_of, range_of_bounds, range_from, range_of, index_of_bounds, index_from, index_of, indices_of, header_of};
+ghost use Rattle.f95_parts.specs.Parts.{filled, picked, dim_of, dims_of, dim_of_bounds, bound_of, bounds_of, bound_of_bounds, entity, entity_named, entity_from, entity_of, allocation_named, allocation_of, range_of_bounds, range_from, range_of, index_of_bounds, index_from, index_of, indices_of, header_of};
 
 use crate::part::{Part, as_reference, collected, reference_of, spread_expression};
-use a95_base::Bytes;
-use f95_expressions::{Field, Spread, Stack, expression_of, lone, whole};
+use a95_base::{Bytes, Stack};
+use f95_expressions::{Field, Spread, expression_of, lone, whole};
 use f95_tree::{
     Allocation, Bound, CaseRange, Dim, Entity, Expression, Header, Index, Item, Reference,
 };
@@ -166,7 +166,7 @@ fn initial_entity(
 }
 
 impl Part for Entity {
-    ghost use Rattle.f95_statements.specs.Parts.{entity_of};
+    ghost use Rattle.f95_parts.specs.Parts.{entity_of};
 
     ghost taken = { entity_of };
 
@@ -193,7 +193,7 @@ fn allocation_named(alloc: Global, reference: Reference) -> Result<Option<Alloca
 }
 
 impl Part for Allocation {
-    ghost use Rattle.f95_statements.specs.Parts.{allocation_of};
+    ghost use Rattle.f95_parts.specs.Parts.{allocation_of};
 
     ghost taken = { allocation_of };
 
@@ -244,7 +244,7 @@ fn range_of(field: Field) -> Option<CaseRange>
 }
 
 impl Part for CaseRange {
-    ghost use Rattle.f95_statements.specs.Parts.{range_of};
+    ghost use Rattle.f95_parts.specs.Parts.{range_of};
 
     ghost taken = { range_of };
 
@@ -293,7 +293,7 @@ fn index_of(field: Field) -> Option<Index>
 }
 
 impl Part for Index {
-    ghost use Rattle.f95_statements.specs.Parts.{index_of};
+    ghost use Rattle.f95_parts.specs.Parts.{index_of};
 
     ghost taken = { index_of };
 

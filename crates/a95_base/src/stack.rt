@@ -1,12 +1,13 @@
-ghost use Rattle.std.specs.Prelude.{◌≡◌, [], ◌∷◌, reverse, OnOk, OnErr, MatchOption};
-ghost use Rattle.f95_expressions.specs.Fields.{rest_of};
+//! The stack in which readers and the machine keep what is open.
+ghost use Rattle.std.specs.Prelude.{◌≡◌, [], ◌∷◌, length, reverse, ◌<◌, ◌^◌, OnOk, OnErr, MatchOption};
+ghost use Rattle.a95_base.specs.Lists.{rest_of};
 
 use sqlite_items::Items;
 use std::alloc::{AllocError, Global};
 use std::marker::Model;
 
 /// A list whose first item is put and taken. Contracts see that list.
-#[derive(Debug, Drop)]
+#[derive(Drop)]
 pub struct Stack<T> {
     items: Vec<T>,
 }
@@ -38,6 +39,13 @@ impl<T> Stack<T> {
         self.items.last()
     }
 
+    /// The items, the first one last.
+    pub fn as_slice(&self) -> &[T]
+        ensures { reverse result.now ≡ self.now }
+    {
+        self.items.as_slice()
+    }
+
     pub fn pop(&mut self) -> Option<T>
         ensures { MatchOption result ((self.old ≡ []) × (self.new ≡ [])) (λ top. self.old ≡ top ∷ self.new) }
     {
@@ -46,6 +54,13 @@ impl<T> Stack<T> {
 }
 
 impl<T: Drop> Stack<T> {
+    /// Takes the first item away, if there is one.
+    pub fn drop_top(&mut self)
+        ensures { self.new ≡ rest_of self.old }
+    {
+        let _ = self.pop();
+    }
+
     /// The same list, as items.
     pub fn into_items(self) -> Items<T>
         ensures { result ≡ self }
@@ -61,6 +76,13 @@ impl<T: Drop> Stack<T> {
     {
         let Stack { items } = self;
         Items::from_vec(items)
+    }
+
+    pub fn len(&self) -> usize
+        ensures length { result ≡ length self.now }
+        ensures within { result < 2 ^ 63 }
+    {
+        self.items.len()
     }
 
     pub fn push(&mut self, item: T) -> Result<(), AllocError>

@@ -1,5 +1,5 @@
 use Rattle.std.proofs.Common.{◌≡◌, ℕ, [], length}
-use Rattle.f95_statements.proofs.part.collected.Given as goal
+use Rattle.f95_parts.proofs.part.collected.Given as goal
 use Rattle.f95_expressions.specs.Machine.{collected}
 
 abbrev pub invariant-collecting : goal.invariant-collecting

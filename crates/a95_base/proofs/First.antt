@@ -4,8 +4,8 @@ use Rattle.std.proofs.Common.{refl, ◌∙◌, subst, inl, inr, ⊎_elim, arith}
 use Rattle.std.proofs.lemmas.Bool.{cases_lt}
 use Rattle.std.proofs.lemmas.Bool.Decides.{nat_tests}
 use Rattle.a95_base.specs.Lists.{Member}
-use Rattle.f95_lexer.specs.declared.character.Break.{Break}
-use Rattle.f95_lexer.specs.Rules.{ComesFirst, comes_first, first_from, first_of}
+use Rattle.a95_base.specs.declared.breaks.Break.{Break}
+use Rattle.a95_base.specs.Breaks.{ComesFirst, IsLeast, AreBroken, broken_at, comes_first, first_from, first_of}
 
 -- break a comes before break b, or both are the same
 pub record Before (a b : Break) : Type 0 where
@@ -74,3 +74,11 @@ first_from_is b (c ∷ cs) =
 pub first_of_is : (bs : List Break) (f : Break) → first_of bs ≡ Some f → IsFirst f bs
 first_of_is [] f e = cc
 first_of_is (b ∷ bs) f e = let is : first_from b bs ≡ f = cc in subst (λ z. IsFirst z (b ∷ bs)) is (first_from_is b bs)
+
+-- the first of what is broken is the least
+pub first_is_least : (IsBroken : ℕ → ℕ → Type 0) (bs : List Break) (f : Break) → AreBroken IsBroken bs
+    → first_of bs ≡ Some f → IsLeast IsBroken f.line f.rule
+first_is_least IsBroken bs f are e = record {
+  broken = are.sound f (first_of_is bs f e).among;
+  least = λ line. λ rule. λ b. ((first_of_is bs f e).before (broken_at line rule) (are.complete line rule b)).order;
+}

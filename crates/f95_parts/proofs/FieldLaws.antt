@@ -28,8 +28,8 @@ use Rattle.f95_expressions.specs.Fields.{field_text, well_field}
 use Rattle.f95_expressions.specs.Machine.{lone, whole, field}
 use Rattle.f95_expressions.proofs.Lists.{both, joined}
 use Rattle.f95_expressions.proofs.Read.{mapped, chained, lone_sound, whole_sound}
-use Rattle.f95_statements.specs.Parts.{spread_expression, keyword_of, argument, argument_of, range_from, range_of, range_of_bounds, index, index_of_bounds, index_from, index_of}
-use Rattle.f95_statements.proofs.PartLaws.{lone_again, spread_sound, whole_again}
+use Rattle.f95_parts.specs.Parts.{spread_expression, keyword_of, argument, argument_of, range_from, range_of, range_of_bounds, index, index_of_bounds, index_from, index_of}
+use Rattle.f95_parts.proofs.PartLaws.{lone_again, spread_sound, whole_again}
 
 -- ---- arguments
 

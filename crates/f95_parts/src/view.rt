@@ -1,7 +1,7 @@
 //! What stands first in some terminals, and what stands behind it.
 
 ghost use Rattle.std.specs.Prelude.{◌≡◌, ◌∷◌, [], MatchOption, IfOk, option_map, option_and_then};
-ghost use Rattle.f95_statements.specs.Views.{is, is_nil, mark_number, is_mark, is_star, behind, behind_star, as_name, as_keyword, as_literal, behind_name, behind_keyword, behind_literal, behind_word, name_at_end, at_end};
+ghost use Rattle.f95_parts.specs.Views.{is, is_nil, mark_number, is_mark, is_star, behind, behind_star, as_name, as_keyword, as_literal, behind_name, behind_keyword, behind_literal, behind_word, name_at_end, at_end};
 
 use a95_base::Bytes;
 use f95_tree::{Keyword, Literal, Operator, Punctuation, Terminal};

@@ -1,6 +1,6 @@
 use Rattle.std.proofs.Common.{◌≡◌, ℕ, [], length}
-use Rattle.f95_statements.proofs.bounds.bounds_of.Given as goal
-use Rattle.f95_statements.specs.Parts.{picked, bound_of}
+use Rattle.f95_parts.proofs.bounds.bounds_of.Given as goal
+use Rattle.f95_parts.specs.Parts.{picked, bound_of}
 
 abbrev pub invariant-picking : goal.invariant-picking
 invariant-picking l = picked bound_of l.bounds l.items ≡ picked bound_of [] l.initial.items

@@ -13,7 +13,7 @@ use Rattle.f95_tree.specs.Forms.{Word, maybe_named, star}
 use Rattle.f95_tree.specs.Spelling.{Text, punctuated}
 use Rattle.f95_expressions.proofs.Lists.{both, by_test}
 use Rattle.f95_expressions.proofs.Read.{mapped, chained}
-use Rattle.f95_statements.specs.Views.{is, is_nil, mark_number, is_mark, is_star, behind, behind_star, as_name, as_keyword, as_literal, behind_name, behind_keyword, behind_literal, behind_word, at_end, nothing_more, name_at_end}
+use Rattle.f95_parts.specs.Views.{is, is_nil, mark_number, is_mark, is_star, behind, behind_star, as_name, as_keyword, as_literal, behind_name, behind_keyword, behind_literal, behind_word, at_end, nothing_more, name_at_end}
 
 pub nil : (ts : Text) → is_nil ts ≡ true → ts ≡ []
 nil [] h = refl

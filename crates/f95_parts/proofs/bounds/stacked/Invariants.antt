@@ -1,5 +1,5 @@
 use Rattle.std.proofs.Common.{◌≡◌, ℕ, ◌++◌, length}
-use Rattle.f95_statements.proofs.bounds.stacked.Given as goal
+use Rattle.f95_parts.proofs.bounds.stacked.Given as goal
 
 abbrev pub invariant-stacking : goal.invariant-stacking
 invariant-stacking l = l.items ++ l.stack ≡ l.fn.items

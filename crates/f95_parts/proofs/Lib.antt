@@ -1,0 +1,4 @@
+pub mod BoundLaws
+pub mod FieldLaws
+pub mod PartLaws
+pub mod ViewLaws
