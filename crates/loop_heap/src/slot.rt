@@ -9,13 +9,13 @@ ghost use Rattle.loop_heap.specs.Halts.{IfStuck};
 ghost use Rattle.loop_heap.specs.Contents.{cells_in};
 
 use crate::halt::Halt;
-use a95_base::Bytes;
+use a95_base::{Bytes, MOST_ELEMENTS};
 use loop_tree::StuckState;
 use std::alloc::{AllocError, Global};
 use std::marker::Model;
 
 /// A block has at most so many cells.
-pub const LARGEST: usize = 1 << 24;
+pub const LARGEST: usize = MOST_ELEMENTS as usize;
 
 /// The cells of a block.
 #[derive(Drop)]

@@ -1,6 +1,7 @@
 //! The greedy choice of a legal order, from the outermost loop inward.
 ghost use Rattle.std.specs.Prelude.{◌≡◌, ◌+◌, ◌≤◌, ◌<◌, ◌||◌, List, IfSome, IfNone, find, option_map};
 ghost use Rattle.a95_base.specs.Lists.{down_to_one};
+ghost use Rattle.a95_base.specs.Limits.{greatest_rank};
 ghost use Rattle.rank_shape.specs.Order.{Level};
 ghost use Rattle.rank_shape.specs.Shape.{IsRank};
 ghost use Rattle.loop_order.specs.Choice.{IsAllowed, choice, chosen, some_entry, suits, is_unknown, is_up, is_down};
@@ -57,7 +58,7 @@ struct NextLevel {
 
 // The highest-numbered loop left that suits the distances not yet settled.
 fn next_level<const R: usize>(dists: &[Dist<R>], taken: &[bool; R]) -> Option<NextLevel>
-    requires { R ≤ 7 }
+    requires { R ≤ greatest_rank }
     ensures first { option_map (λ next. next.number) result ≡ find (λ loop. suits loop (open_distances taken.now (distances_of R dists.now))) (loops_left R taken.now) }
     ensures direction { IfSome result (λ next. next.down ≡ some_entry is_up next.number (open_distances taken.now (distances_of R dists.now))) }
 {

@@ -1,12 +1,13 @@
 -- Shapes and places, for every rank. A list of extents or of subscripts has the first dimension first, whose subscript
 -- varies fastest in array element order. Places are counted from 0.
-use Rattle.std.specs.Prelude.{◌≡◌, ℕ, ℤ, pos, ◌+◌, ◌*◌, ◌/◌, ◌%◌, ◌^◌, ◌<◌, ◌≤◌, ◌≤ℤ◌, List, [], ◌∷◌, length, map, unsigned_abs}
+use Rattle.std.specs.Prelude.{◌≡◌, ℕ, ℤ, pos, ◌+◌, ◌*◌, ◌/◌, ◌%◌, ◌<◌, ◌≤◌, ◌≤ℤ◌, List, [], ◌∷◌, length, map, unsigned_abs}
 use Rattle.a95_base.specs.Lists.{Every, count_to}
+use Rattle.a95_base.specs.Limits.{greatest_rank, most_elements}
 
 -- the ranks that an array may have
 pub record IsRank (rank : ℕ) : Type 0 where
   pub least : 1 ≤ rank
-  pub most : rank ≤ 7
+  pub most : rank ≤ greatest_rank
 
 abbrev pub AreNatural : List ℤ → Type 0
 AreNatural = Every (λ z. pos 0 ≤ℤ z)
@@ -24,7 +25,7 @@ size_of (extent ∷ extents) = extent * size_of extents
 pub record IsShape (rank : ℕ) (extents : List ℕ) : Type 0 where
   pub ranked : IsRank rank
   pub long : length extents ≡ rank
-  pub small : size_of extents ≤ 2 ^ 24
+  pub small : size_of extents ≤ most_elements
 
 -- one subscript for each dimension, each below the extent
 abbrev pub IsPlace : List ℕ → List ℕ → Type 0

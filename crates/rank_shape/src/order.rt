@@ -1,6 +1,7 @@
 //! Orders of loops.
 ghost use Rattle.std.specs.Prelude.{◌≡◌, ℕ, ◌<◌, ◌≤◌, ◌↔◌, length, IsSome, IfSome, IsTrue};
 ghost use Rattle.a95_base.specs.Lists.{Member};
+ghost use Rattle.a95_base.specs.Limits.{greatest_rank};
 ghost use Rattle.rank_shape.specs.Order.{levels, level_at, IsOrder, element_order_of};
 ghost use Rattle.rank_shape.specs.Shape.{IsRank};
 
@@ -91,7 +92,7 @@ impl<const R: usize> Order<R> {
 }
 
 fn names_all<const R: usize>(loops: &[u8; R]) -> bool
-    requires { R ≤ 7 }
+    requires { R ≤ greatest_rank }
     ensures { IsTrue result ↔ ((k : ℕ) → 1 ≤ k → k ≤ R → Member loops.now k) }
 {
     for k in 0..R {

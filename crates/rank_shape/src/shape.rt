@@ -1,11 +1,13 @@
 //! Shapes, places and their numbers.
-ghost use Rattle.std.specs.Prelude.{◌≡◌, pos, min, ◌+◌, ◌^◌, ◌<◌, ◌≤◌, ◌<ℤ◌, ◌≤ℤ◌, ◌↔◌, length, map, unsigned_abs, slice_index, IsSome, IfSome};
+ghost use Rattle.std.specs.Prelude.{◌≡◌, pos, min, ◌+◌, ◌<◌, ◌≤◌, ◌<ℤ◌, ◌≤ℤ◌, ◌↔◌, length, map, unsigned_abs, slice_index, IsSome, IfSome};
+ghost use Rattle.a95_base.specs.Limits.{most_elements};
 ghost use Rattle.rank_shape.specs.Shape.{IsRank, AreNatural, naturals, size_of, IsShape, IsPlace, number_of, place_at};
 
+use a95_base::MOST_ELEMENTS;
 use std::marker::Model;
 
 /// The most places that a shape may have.
-const MOST_PLACES: u64 = 1 << 24;
+const MOST_PLACES: u64 = MOST_ELEMENTS as u64;
 
 /// The extents of an array of rank `R`, the first dimension first. Contracts see the list of extents.
 #[derive(Clone, Copy, Debug, PartialEq, Eq)]
@@ -41,7 +43,7 @@ impl<const R: usize> Shape<R> {
     pub fn new(extents: [i64; R]) -> Option<Shape<R>>
         requires ranked { IsRank R }
         requires natural { AreNatural extents }
-        ensures small { IsSome result ↔ (size_of (naturals extents.entry) ≤ 2 ^ 24) }
+        ensures small { IsSome result ↔ (size_of (naturals extents.entry) ≤ most_elements) }
         ensures shape { IfSome result (λ shape. shape ≡ naturals extents.entry) }
     {
         if capped_size(&extents) > MOST_PLACES {
@@ -124,7 +126,7 @@ fn natural_at<const R: usize>(numbers: &[i64; R], k: usize) -> u64
 
 // The number of places, or one past the limit where it is past the limit: a later extent of 0 still makes it 0.
 fn capped_size<const R: usize>(extents: &[i64; R]) -> u64
-    ensures { result ≡ min (size_of (naturals extents.now)) (2 ^ 24 + 1) }
+    ensures { result ≡ min (size_of (naturals extents.now)) (most_elements + 1) }
 {
     let mut size = 1u64;
     for k in 0..R {
@@ -138,7 +140,7 @@ fn capped_size<const R: usize>(extents: &[i64; R]) -> u64
 #[tactic(auto, using(crate::proofs::Numbers::number_below))]
 fn number_in<const R: usize>(extents: &[i64; R], at: &[i64; R]) -> u64
     requires within { IsPlace (naturals extents.now) (naturals at.now) }
-    requires small { size_of (naturals extents.now) ≤ 2 ^ 24 }
+    requires small { size_of (naturals extents.now) ≤ most_elements }
     ensures number { result ≡ number_of (naturals extents.now) (naturals at.now) }
     ensures below { result < size_of (naturals extents.now) }
 {
@@ -151,7 +153,7 @@ fn number_in<const R: usize>(extents: &[i64; R], at: &[i64; R]) -> u64
 
 fn place_in<const R: usize>(extents: &[i64; R], number: u64) -> [i64; R]
     requires below { number < size_of (naturals extents.now) }
-    requires small { size_of (naturals extents.now) ≤ 2 ^ 24 }
+    requires small { size_of (naturals extents.now) ≤ most_elements }
     ensures { result ≡ map pos (place_at (naturals extents.now) number) }
 {
     let mut at = [0i64; R];

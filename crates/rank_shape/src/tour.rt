@@ -1,5 +1,6 @@
 //! Walks over the places of a shape.
-ghost use Rattle.std.specs.Prelude.{◌≡◌, ◌<◌, ◌≤◌, ◌^◌, map, pos};
+ghost use Rattle.std.specs.Prelude.{◌≡◌, ◌<◌, ◌≤◌, map, pos};
+ghost use Rattle.a95_base.specs.Limits.{most_elements};
 ghost use Rattle.rank_shape.specs.Order.{element_order_of};
 ghost use Rattle.rank_shape.specs.Shape.{places_of};
 ghost use Rattle.rank_shape.specs.Walk.{tour, IsWhole};
@@ -79,7 +80,7 @@ fn place_of_turn<const R: usize>(
     turn: u64,
 ) -> Place<R>
     requires turns { size ≡ turns_in order.now shape.now }
-    requires small { size ≤ 2 ^ 24 }
+    requires small { size ≤ most_elements }
     requires below { turn < size }
     ensures { result.at ≡ map pos (visited order.now shape.now (map (λ extent. 0) shape.now) turn) }
 {
