@@ -1,0 +1,5 @@
+//! Tests of command lines: which words are which command.
+#![tactic(auto)]
+
+#[cfg(test)]
+mod lines;
