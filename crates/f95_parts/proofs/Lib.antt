@@ -1,4 +1,8 @@
 pub mod BoundLaws
+pub mod EntityLaws
 pub mod FieldLaws
+pub mod HeaderLaws
+pub mod Instances
+pub mod ListLaws
 pub mod PartLaws
 pub mod ViewLaws

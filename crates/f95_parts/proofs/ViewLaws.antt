@@ -1,7 +1,7 @@
 -- What stands first, both ways.
 use Rattle.std.proofs.Common.{◌≡◌, ℕ, Bool, true, false, ◌&&◌, ◌==◌, nat_eq, List, [], ◌∷◌, ◌++◌, Option, Some, None, sym, ◌∙◌, ap, refl}
 use Rattle.std.specs.Prelude.{option_map, option_and_then, if◌then◌else◌}
-use Rattle.std.proofs.lemmas.Bool.{eqb-true}
+use Rattle.std.proofs.lemmas.Bool.{eqb-true, eq-eqb}
 use Rattle.f95_tree.specs.declared.expression.Literal.{Literal}
 use Rattle.f95_tree.specs.declared.terminal.Terminal.{Terminal}
 use Rattle.f95_tree.specs.declared.terminal.Terminal.TheVariants as terminal
@@ -11,7 +11,7 @@ use Rattle.f95_tree.specs.declared.terminal.Punctuation.{Punctuation}
 use Rattle.f95_tree.specs.declared.terminal.Punctuation.TheVariants as mark
 use Rattle.f95_tree.specs.Forms.{Word, maybe_named, star}
 use Rattle.f95_tree.specs.Spelling.{Text, punctuated}
-use Rattle.f95_expressions.proofs.Lists.{both, by_test}
+use Rattle.f95_expressions.proofs.Lists.{both, joined, by_test}
 use Rattle.f95_expressions.proofs.Read.{mapped, chained}
 use Rattle.f95_parts.specs.Views.{is, is_nil, mark_number, is_mark, is_star, behind, behind_star, as_name, as_keyword, as_literal, behind_name, behind_keyword, behind_literal, behind_word, at_end, nothing_more, name_at_end}
 
@@ -125,3 +125,30 @@ name_end_sound ts n h = by_test (λ b. (if b then Some None else option_map Some
 pub name_end_again : (n : Option Word) → name_at_end (maybe_named n) ≡ Some n
 name_end_again None = refl
 name_end_again (Some n) = refl
+
+-- ---- what is spelled so is read so
+
+pub star_again : (rest : Text) → behind_star (star ∷ rest) ≡ Some rest
+star_again rest = refl
+
+pub name_again : (n : Word) (rest : Text) → behind_name (terminal.Name n ∷ rest) ≡ Some (n, rest)
+name_again n rest = refl
+
+pub keyword_again : (k : Keyword) (rest : Text) → behind_keyword (terminal.Keyword k ∷ rest) ≡ Some (k, rest)
+keyword_again k rest = refl
+
+pub literal_again : (l : Literal) (rest : Text) → behind_literal (terminal.Literal l ∷ rest) ≡ Some (l, rest)
+literal_again l rest = refl
+
+word_is : (w : Word) → is w w ≡ true
+word_is [] = refl
+word_is (x ∷ w) = joined (nat_eq x x) (is w w) (eq-eqb x x refl) (word_is w)
+
+pub word_again : (w : Word) (rest : Text) → behind_word w (terminal.Name w ∷ rest) ≡ Some rest
+word_again w rest = ap (λ b. if b then Some rest else None) (word_is w)
+
+pub end_again : {A : Type 0} (a : A) → at_end (a, []) ≡ Some a
+end_again a = refl
+
+pub more_again : {A : Type 0} (a : A) → nothing_more a [] ≡ Some a
+more_again a = refl
