@@ -61,24 +61,29 @@ abbrev of_entity : Entity → Reference
 of_entity a = entity_reference a.name a.dims
 
 abbrev NamedSound : Reference → Type 0
-NamedSound x = (initial : Option Expression) (a : Entity) → entity_named initial x ≡ Some a → (x ≡ of_entity a) × ((initial ≡ a.initial) × (some_dims a.dims ≡ true))
+NamedSound x = (initial : Option Expression) (a : Entity) → entity_named initial x ≡ Some a →
+    (x ≡ of_entity a) × ((initial ≡ a.initial) × (some_dims a.dims ≡ true))
 
 named_sound : (x : Reference) → NamedSound x
 named_sound = reference_cases NamedSound
     (λ n i a h. let q = sym (ap (entity_in i) (seen-Whole n)) ∙ h in let is : entity n None i ≡ a = cc in
     (ap of_entity is, (ap (λ (a : Entity). a.initial) is, sym (ap (λ (a : Entity). some_dims a.dims) is))))
-    (λ n xs i a h. mapped (λ dims. entity n (Some dims) i) (dims_of xs) a (sym (ap (entity_in i) (seen-Items n xs)) ∙ h) (λ ds hd is.
+    (λ n xs i a h. mapped (λ dims. entity n (Some dims) i) (dims_of xs) a (sym (ap (entity_in i) (seen-Items n xs)) ∙ h)
+        (λ ds hd is.
     let d = dims_sound xs ds hd in
-    (ap (r.Items n) d.0 ∙ ap of_entity is, (ap (λ (a : Entity). a.initial) is, sym (ap (λ (a : Entity). some_dims a.dims) is) ∙ d.1))))
+    (ap (r.Items n) d.0 ∙ ap of_entity is,
+     (ap (λ (a : Entity). a.initial) is, sym (ap (λ (a : Entity). some_dims a.dims) is) ∙ d.1))))
     (λ n xs b c i a h. let q = sym (ap (entity_in i) (seen-Substring n xs b c)) ∙ h in absurd (cc))
 
-sound_from : (left : Option Expression) (s : Spread) (a : Entity) → entity_from left s ≡ Some a → (field left s ≡ entity_field a) × (some_dims a.dims ≡ true)
+sound_from : (left : Option Expression) (s : Spread) (a : Entity) → entity_from left s ≡ Some a →
+    (field left s ≡ entity_field a) × (some_dims a.dims ≡ true)
 sound_from None s a h = chained (λ x. option_and_then (entity_named None) (as_reference x)) (spread_expression s) a h (λ x hx h2.
     chained (entity_named None) (as_reference x) a h2 (λ y hy h3.
     let n = named_sound y None a h3 in
     (ap (field None) (spread_sound s x hx) ∙ ap (λ x. field None (spread.One (v.One x))) (as_reference_sound x y hy)
      ∙ ap reference_field n.0 ∙ ap (λ i. named_field i (of_entity a)) n.1.0, n.1.1)))
-sound_from (Some left) s a h = chained (λ i. option_and_then (entity_named (Some i)) (as_reference left)) (spread_expression s) a h (λ i hi h2.
+sound_from (Some left) s a h = chained (λ i. option_and_then (entity_named (Some i)) (as_reference left)) (spread_expression s) a h
+    (λ i hi h2.
     chained (entity_named (Some i)) (as_reference left) a h2 (λ y hy h3.
     let n = named_sound y (Some i) a h3 in
     (ap (λ l. field (Some l) s) (as_reference_sound left y hy) ∙ ap (field (Some (e.Reference y))) (spread_sound s i hi)
@@ -87,11 +92,14 @@ sound_from (Some left) s a h = chained (λ i. option_and_then (entity_named (Som
 pub entity_sound : (f : Field) (a : Entity) → entity_of f ≡ Some a → (f ≡ entity_field a) × (some_dims a.dims ≡ true)
 entity_sound f a h = sound_from f.left f.spread a h
 
-named_again : (i : Option Expression) (n : Word) (ds : Option (List Dim)) → some_dims ds ≡ true → entity_named i (entity_reference n ds) ≡ Some (entity n ds i)
+named_again : (i : Option Expression) (n : Word) (ds : Option (List Dim)) → some_dims ds ≡ true →
+    entity_named i (entity_reference n ds) ≡ Some (entity n ds i)
 named_again i n None h = ap (entity_in i) (seen-Whole n)
-named_again i n (Some ds) h = ap (entity_in i) (seen-Items n (map dim_item ds)) ∙ ap (option_map (λ dims. entity n (Some dims) i)) (dims_again ds h)
+named_again i n (Some ds) h = ap (entity_in i) (seen-Items n (map dim_item ds))
+    ∙ ap (option_map (λ dims. entity n (Some dims) i)) (dims_again ds h)
 
-again_by : (i : Option Expression) (n : Word) (ds : Option (List Dim)) → some_dims ds ≡ true → entity_of (named_field i (entity_reference n ds)) ≡ Some (entity n ds i)
+again_by : (i : Option Expression) (n : Word) (ds : Option (List Dim)) → some_dims ds ≡ true →
+    entity_of (named_field i (entity_reference n ds)) ≡ Some (entity n ds i)
 again_by None n ds h =
     let x = entity_reference n ds in
     ap (option_and_then (λ x. option_and_then (entity_named None) (as_reference x))) (lone_again (e.Reference x))
@@ -108,10 +116,13 @@ reference_spelled : (n : Word) (ds : Option (List Dim)) → reference (entity_re
 reference_spelled n None = reference-Whole n
 reference_spelled n (Some ds) = reference-Items n (map dim_item ds) ∙ ap (λ t. terminal.Name n ∷ t) (dims_spelled ds)
 
-spelled_by : (i : Option Expression) (n : Word) (ds : Option (List Dim)) → field_text (named_field i (entity_reference n ds)) ≡ entity_text (entity n ds i)
-spelled_by None n ds = reference_text (entity_reference n ds) ∙ reference_spelled n ds ∙ ap (λ t. terminal.Name n ∷ t) (sym (append-nil (maybe_dims ds)))
+spelled_by : (i : Option Expression) (n : Word) (ds : Option (List Dim)) →
+    field_text (named_field i (entity_reference n ds)) ≡ entity_text (entity n ds i)
+spelled_by None n ds = reference_text (entity_reference n ds) ∙ reference_spelled n ds
+    ∙ ap (λ t. terminal.Name n ∷ t) (sym (append-nil (maybe_dims ds)))
 spelled_by (Some i) n ds =
-    ap (λ t. (t ++ punctuated mark.Assign []) ++ value (v.One i)) (expression-Reference (entity_reference n ds) ∙ reference_spelled n ds)
+    ap (λ t. (t ++ punctuated mark.Assign []) ++ value (v.One i))
+        (expression-Reference (entity_reference n ds) ∙ reference_spelled n ds)
     ∙ append_assoc (terminal.Name n ∷ maybe_dims ds) (punctuated mark.Assign []) (value (v.One i))
     ∙ ap (λ t. terminal.Name n ∷ (maybe_dims ds ++ punctuated mark.Assign t)) (value-One i)
 
@@ -122,7 +133,8 @@ reference_wells : (n : Word) (ds : Option (List Dim)) → well_reference (entity
 reference_wells n None = well_reference-Whole n
 reference_wells n (Some ds) = well_reference-Items n (map dim_item ds) ∙ dims_well ds
 
-well_by : (i : Option Expression) (n : Word) (ds : Option (List Dim)) → well_field (named_field i (entity_reference n ds)) ≡ (all_dims ds && maybe_well_expression i)
+well_by : (i : Option Expression) (n : Word) (ds : Option (List Dim)) →
+    well_field (named_field i (entity_reference n ds)) ≡ (all_dims ds && maybe_well_expression i)
 well_by None n ds = reference_well (entity_reference n ds) ∙ reference_wells n ds ∙ sym (and-true (all_dims ds))
 well_by (Some i) n ds =
     ap (λ b. b && well_value (v.One i)) (ap (λ (g : Grade). g.1) (grade-Reference (entity_reference n ds)) ∙ reference_wells n ds)
@@ -131,7 +143,8 @@ well_by (Some i) n ds =
 pub entity_meets : (f : Field) (a : Entity) → entity_of f ≡ Some a → well_field f ≡ true → well_entity a ≡ true
 entity_meets f a h q =
     let s = entity_sound f a h in
-    let ws = both (all_dims a.dims) (maybe_well_expression a.initial) (sym (well_by a.initial a.name a.dims) ∙ sym (ap well_field s.0) ∙ q) in
+    let ws = both (all_dims a.dims) (maybe_well_expression a.initial)
+        (sym (well_by a.initial a.name a.dims) ∙ sym (ap well_field s.0) ∙ q) in
     joined (maybe_well_dims a.dims) (maybe_well_expression a.initial) (dims_joined a.dims s.1 ws.0) ws.1
 
 pub entity_kept : (a : Entity) → well_entity a ≡ true → well_field (entity_field a) ≡ true

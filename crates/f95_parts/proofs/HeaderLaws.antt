@@ -37,7 +37,8 @@ done_fields [] h = absurd (cc)
 done_fields (f ∷ fs) h = sym (append_assoc (done_text fs) (field_text f) (punctuated mark.Comma []))
 
 -- one more field behind others
-behind_fields : (fs : List Field) (f : Field) (t : Text) → some fs ≡ true → field_text f ≡ t → fields_text (f ∷ fs) ≡ fields_text fs ++ punctuated mark.Comma t
+behind_fields : (fs : List Field) (f : Field) (t : Text) → some fs ≡ true → field_text f ≡ t →
+    fields_text (f ∷ fs) ≡ fields_text fs ++ punctuated mark.Comma t
 behind_fields fs f t h q =
     ap (λ d. d ++ field_text f) (done_fields fs h) ∙ append_assoc (fields_text fs) (punctuated mark.Comma []) (field_text f)
     ∙ ap (λ t. fields_text fs ++ punctuated mark.Comma t) q
@@ -52,41 +53,53 @@ record HeaderIs (fs : List Field) (h : Header) : Type 0 where
   pub spelled : inside_text h ≡ fields_text fs
   pub kept : well_header h ≡ true
 
-with_mask : (h : Header) (mask : Option Expression) → mask ≡ h.mask → inside_text h ≡ commas (map index_text h.indices) ++ maybe_behind mark.Comma (maybe_expression mask)
+with_mask : (h : Header) (mask : Option Expression) → mask ≡ h.mask →
+    inside_text h ≡ commas (map index_text h.indices) ++ maybe_behind mark.Comma (maybe_expression mask)
 with_mask h mask e = ap (λ m. commas (map index_text h.indices) ++ maybe_behind mark.Comma (maybe_expression m)) (sym e)
 
-well_parts : (h : Header) → some h.indices ≡ true → all (map well_index h.indices) ≡ true → maybe_well_expression h.mask ≡ true → well_header h ≡ true
+well_parts : (h : Header) → some h.indices ≡ true → all (map well_index h.indices) ≡ true → maybe_well_expression h.mask ≡ true →
+    well_header h ≡ true
 well_parts h a b c =
-    joined (some h.indices) (all (map well_index h.indices) && maybe_well_expression h.mask) a (joined (all (map well_index h.indices)) (maybe_well_expression h.mask) b c)
+    joined (some h.indices) (all (map well_index h.indices) && maybe_well_expression h.mask) a
+        (joined (all (map well_index h.indices)) (maybe_well_expression h.mask) b c)
 
 unmasked_sound : (fs : List Field) (h : Header) → indices_of None fs ≡ Some h → well_fields fs ≡ true → HeaderIs fs h
 unmasked_sound fs h q w =
     let s = indices_sound None fs h q in record {
       spelled = with_mask h None s.1.0 ∙ append-nil (commas (map index_text h.indices)) ∙ collected_text indices fs h.indices s.0;
-      kept = well_parts h (collected_some indices fs h.indices s.0 s.1.1) (collected_well indices fs h.indices s.0 w) (sym (ap maybe_well_expression s.1.0));
+      kept = well_parts h (collected_some indices fs h.indices s.0 s.1.1) (collected_well indices fs h.indices s.0 w)
+          (sym (ap maybe_well_expression s.1.0));
     }
 
-masked_sound : (f : Field) (fs : List Field) (x : Expression) (h : Header) → f ≡ expression_field x → indices_of (Some x) fs ≡ Some h → well_fields (f ∷ fs) ≡ true → HeaderIs (f ∷ fs) h
+masked_sound : (f : Field) (fs : List Field) (x : Expression) (h : Header) → f ≡ expression_field x →
+    indices_of (Some x) fs ≡ Some h → well_fields (f ∷ fs) ≡ true → HeaderIs (f ∷ fs) h
 masked_sound f fs x h is q w =
     let s = indices_sound (Some x) fs h q in
     let ws = both (well_fields fs) (well_field f) w in record {
-      spelled = with_mask h (Some x) s.1.0 ∙ ap (λ t. t ++ punctuated mark.Comma (expression x)) (collected_text indices fs h.indices s.0)
+      spelled = with_mask h (Some x) s.1.0
+          ∙ ap (λ t. t ++ punctuated mark.Comma (expression x)) (collected_text indices fs h.indices s.0)
           ∙ sym (behind_fields fs f (expression x) s.1.1 (ap field_text is ∙ expression_text x));
       kept = well_parts h (collected_some indices fs h.indices s.0 s.1.1) (collected_well indices fs h.indices s.0 ws.0)
           (sym (ap maybe_well_expression s.1.0) ∙ sym (expression_well x) ∙ sym (ap well_field is) ∙ ws.1);
     }
 
-pub header_sound : (fs : List Field) (h : Header) → header_of fs ≡ Some h → well_fields fs ≡ true → (inside_text h ≡ fields_text fs) × (well_header h ≡ true)
+pub header_sound : (fs : List Field) (h : Header) → header_of fs ≡ Some h → well_fields fs ≡ true →
+    (inside_text h ≡ fields_text fs) × (well_header h ≡ true)
 header_sound [] h q w = absurd (cc)
 header_sound (f ∷ fs) h q w =
-    let is = by_test (λ b. (if b then indices_of None (f ∷ fs) else option_and_then (λ mask. indices_of (Some mask) fs) (expression_of f)) ≡ Some h → HeaderIs (f ∷ fs) h) (has_left f)
+    let is = by_test
+        (λ b. (if b then indices_of None (f ∷ fs) else option_and_then (λ mask. indices_of (Some mask) fs) (expression_of f))
+          ≡ Some h → HeaderIs (f ∷ fs) h)
+        (has_left f)
         (λ _ q. unmasked_sound (f ∷ fs) h q w)
-        (λ _ q. chained (λ mask. indices_of (Some mask) fs) (expression_of f) h q (λ x hx q2. masked_sound f fs x h (expression_sound f x hx) q2 w)) q in
+        (λ _ q. chained (λ mask. indices_of (Some mask) fs) (expression_of f) h q
+            (λ x hx q2. masked_sound f fs x h (expression_sound f x hx) q2 w)) q in
     (is.spelled, is.kept)
 
 -- ---- again
 
-indices_by : (mask : Option Expression) (fs : List Field) → some fs ≡ true → indices_of mask fs ≡ option_map (header mask) (collected index_of [] fs)
+indices_by : (mask : Option Expression) (fs : List Field) → some fs ≡ true →
+    indices_of mask fs ≡ option_map (header mask) (collected index_of [] fs)
 indices_by mask [] h = absurd (cc)
 indices_by mask (f ∷ fs) h = refl
 
@@ -102,20 +115,23 @@ again_by None i is w =
     ∙ ap (option_map (header None)) (collected_fields indices (i ∷ is) w)
 again_by (Some x) i is w =
     let fs = onto (map index_field (i ∷ is)) [] in
-    ap (option_and_then (λ mask. indices_of (Some mask) fs)) (expression_again x) ∙ indices_by (Some x) fs (fields_some indices i is)
+    ap (option_and_then (λ mask. indices_of (Some mask) fs)) (expression_again x)
+        ∙ indices_by (Some x) fs (fields_some indices i is)
     ∙ ap (option_map (header (Some x))) (collected_fields indices (i ∷ is) w)
 
 spelled_by : (mask : Option Expression) (i : Index) (is : List Index) →
     fields_text (masked mask (onto (map index_field (i ∷ is)) [])) ≡ inside_text (header mask (i ∷ is))
 spelled_by None i is = fields_spelled indices (i ∷ is) ∙ sym (append-nil (commas (map index_text (i ∷ is))))
 spelled_by (Some x) i is =
-    behind_fields (onto (map index_field (i ∷ is)) []) (expression_field x) (expression x) (fields_some indices i is) (expression_text x)
+    behind_fields (onto (map index_field (i ∷ is)) []) (expression_field x) (expression x) (fields_some indices i is)
+        (expression_text x)
     ∙ ap (λ t. t ++ punctuated mark.Comma (expression x)) (fields_spelled indices (i ∷ is))
 
 well_by : (mask : Option Expression) (is : List Index) → all (map well_index is) ≡ true → maybe_well_expression mask ≡ true →
     well_fields (masked mask (onto (map index_field is) [])) ≡ true
 well_by None is w q = fields_well indices is w
-well_by (Some x) is w q = joined (well_fields (onto (map index_field is) [])) (well_field (expression_field x)) (fields_well indices is w) (expression_well x ∙ q)
+well_by (Some x) is w q = joined (well_fields (onto (map index_field is) [])) (well_field (expression_field x))
+    (fields_well indices is w) (expression_well x ∙ q)
 
 some_by : (mask : Option Expression) (i : Index) (is : List Index) → some (masked mask (onto (map index_field (i ∷ is)) [])) ≡ true
 some_by None i is = fields_some indices i is

@@ -19,10 +19,12 @@ use Rattle.f95_parts.proofs.EntityLaws as entities
 use Rattle.f95_parts.proofs.ListLaws.{Parts, parts_of}
 
 pub expressions : Parts expression_of expression_field expression well
-expressions = parts_of expression_of expression_field expression well expression_sound part.expression_again part.expression_text part.expression_well refl
+expressions = parts_of expression_of expression_field expression well expression_sound part.expression_again part.expression_text
+    part.expression_well refl
 
 pub references : Parts reference_of part.reference_field reference well_reference
-references = parts_of reference_of part.reference_field reference well_reference part.reference_sound part.reference_again part.reference_text part.reference_well refl
+references = parts_of reference_of part.reference_field reference well_reference part.reference_sound part.reference_again
+    part.reference_text part.reference_well refl
 
 abbrev pub always : Word → Bool
 always n = true
@@ -43,10 +45,12 @@ arguments = parts_of argument_of fields.argument_field argument_text well_argume
     fields.argument_sound fields.argument_again fields.argument_spelled fields.argument_well refl
 
 pub ranges : Parts range_of fields.range_field range_text well_range
-ranges = parts_of range_of fields.range_field range_text well_range fields.range_sound fields.range_again fields.range_spelled fields.range_well refl
+ranges = parts_of range_of fields.range_field range_text well_range fields.range_sound fields.range_again fields.range_spelled
+    fields.range_well refl
 
 pub indices : Parts index_of fields.index_field index_text well_index
-indices = parts_of index_of fields.index_field index_text well_index fields.index_sound fields.index_again fields.index_spelled fields.index_well refl
+indices = parts_of index_of fields.index_field index_text well_index fields.index_sound fields.index_again fields.index_spelled
+    fields.index_well refl
 
 pub allocations : Parts allocation_of bounds.allocation_field allocation_text well_allocation
 allocations = record {

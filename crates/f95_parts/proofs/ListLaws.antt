@@ -1,5 +1,5 @@
--- Lists of what fields are taken for: what is read in a bracket or in a row is spelled as the terminals and well formed, and what is
--- spelled so is read.
+-- Lists of what fields are taken for: what is read in a bracket or in a row is spelled as the terminals and well formed, and
+-- what is spelled so is read.
 use Rattle.std.proofs.Common.{◌≡◌, ℕ, Bool, true, false, ◌&&◌, List, [], ◌∷◌, ◌++◌, map, Option, Some, None, sym, ◌∙◌, ap, subst, refl, append_assoc, append-nil}
 use Rattle.std.specs.Prelude.{option_map, option_and_then, if◌then◌else◌}
 use Rattle.f95_tree.specs.declared.expression.Expression.{Expression}
@@ -63,7 +63,8 @@ row_some ts [] h =
     let q = sym (row_again (field None spread.Empty) [] refl) ∙ ap row s.0 ∙ h in absurd (cc)
 row_some ts (f ∷ fs) h = refl
 
-pub bracket_fields : (fs : List Field) (rest : Text) → some fs ≡ true → well_fields fs ≡ true → bracket (fields_text fs ++ punctuated mark.Close rest) ≡ Some (fs, rest)
+pub bracket_fields : (fs : List Field) (rest : Text) → some fs ≡ true → well_fields fs ≡ true →
+    bracket (fields_text fs ++ punctuated mark.Close rest) ≡ Some (fs, rest)
 bracket_fields [] rest h w = absurd (cc)
 bracket_fields (f ∷ fs) rest h w = bracket_again f fs rest w
 
@@ -98,7 +99,8 @@ within_long (h ∷ fs) f g d = within_long fs h f (g ∷ d)
 
 -- ---- lists
 
-module _ {A : Type 0} {make : Field → Option A} {g : A → Field} {spell : A → Text} {w : A → Bool} (parts : Parts make g spell w) where
+module _ {A : Type 0} {make : Field → Option A} {g : A → Field} {spell : A → Text} {w : A → Bool}
+    (parts : Parts make g spell w) where
 
   abbrev pub spell_all : List A → Text
   spell_all xs = commas (map spell xs)
@@ -111,9 +113,11 @@ module _ {A : Type 0} {make : Field → Option A} {g : A → Field} {spell : A �
   fields xs = onto (map g xs) []
 
   pub collected_text : (fs : List Field) (xs : List A) → collected make [] fs ≡ Some xs → spell_all xs ≡ fields_text fs
-  collected_text fs xs h = sym (list_text g spell parts.spelled xs) ∙ sym (ap fields_text (all_collected make g parts.sound xs fs h))
+  collected_text fs xs h = sym (list_text g spell parts.spelled xs)
+      ∙ sym (ap fields_text (all_collected make g parts.sound xs fs h))
 
-  collected_meets : (done xs : List A) (fs : List Field) → collected make done fs ≡ Some xs → well_fields fs ≡ true → well_all done ≡ true → well_all xs ≡ true
+  collected_meets : (done xs : List A) (fs : List Field) → collected make done fs ≡ Some xs → well_fields fs ≡ true →
+      well_all done ≡ true → well_all xs ≡ true
   collected_meets done xs [] h q d = let is : done ≡ xs = cc in sym (ap well_all is) ∙ d
   collected_meets done xs (f ∷ fs) h q d = chained (λ a. collected make (a ∷ done) fs) (make f) xs h (λ a ha hs.
       let ws = both (well_fields fs) (well_field f) q in
@@ -126,7 +130,8 @@ module _ {A : Type 0} {make : Field → Option A} {g : A → Field} {spell : A �
   collected_some fs [] h q = let is = sym (ap some (all_collected make g parts.sound [] fs h)) ∙ q in absurd (cc)
   collected_some fs (x ∷ xs) h q = refl
 
-  collected_onto : (xs done : List A) (d : List Field) → well_all xs ≡ true → collected make done (onto (map g xs) d) ≡ collected make (xs ++ done) d
+  collected_onto : (xs done : List A) (d : List Field) → well_all xs ≡ true →
+      collected make done (onto (map g xs) d) ≡ collected make (xs ++ done) d
   collected_onto [] done d h = refl
   collected_onto (x ∷ xs) done d h =
       let ws = both (w x) (well_all xs) h in
@@ -153,7 +158,8 @@ module _ {A : Type 0} {make : Field → Option A} {g : A → Field} {spell : A �
   -- what is a part isn't nothing
   something : (x : A) → w x ≡ true → is_nothing (g x) ≡ false
   something x h = by_test (λ b. b ≡ is_nothing (g x) → is_nothing (g x) ≡ false) (is_nothing (g x))
-      (λ e _. let q = sym (parts.again x h) ∙ ap make (nothing_is (g x).left (g x).spread e) ∙ parts.never in absurd (cc)) (λ e _. e) refl
+      (λ e _. let q = sym (parts.again x h) ∙ ap make (nothing_is (g x).left (g x).spread e) ∙ parts.never in absurd (cc))
+          (λ e _. e) refl
 
   -- ---- a row
 
@@ -165,7 +171,8 @@ module _ {A : Type 0} {make : Field → Option A} {g : A → Field} {spell : A �
         kept = joined (some xs) (well_all xs) (collected_some fs xs hx (row_some ts fs hf)) (collected_well fs xs hx s.1);
       })
 
-  pub row_list_again : (x : A) (xs : List A) → well_all (x ∷ xs) ≡ true → option_and_then (collected make []) (row (spell_all (x ∷ xs))) ≡ Some (x ∷ xs)
+  pub row_list_again : (x : A) (xs : List A) → well_all (x ∷ xs) ≡ true →
+      option_and_then (collected make []) (row (spell_all (x ∷ xs))) ≡ Some (x ∷ xs)
   row_list_again x xs h =
       ap (λ t. option_and_then (collected make []) (row t)) (sym (fields_spelled (x ∷ xs)))
       ∙ ap (option_and_then (collected make [])) (row_fields (fields (x ∷ xs)) (fields_some x xs) (fields_well (x ∷ xs) h))
@@ -180,7 +187,8 @@ module _ {A : Type 0} {make : Field → Option A} {g : A → Field} {spell : A �
 
   -- ---- a bracket, of at least one
 
-  pub bracket_list_sound : (ts rest : Text) (fs : List Field) (xs : List A) → bracket ts ≡ Some (fs, rest) → collected make [] fs ≡ Some xs →
+  pub bracket_list_sound : (ts rest : Text) (fs : List Field) (xs : List A) → bracket ts ≡ Some (fs, rest) →
+      collected make [] fs ≡ Some xs →
       (spell_all xs ++ punctuated mark.Close rest ≡ ts) × ((some xs && well_all xs) ≡ true)
   bracket_list_sound ts rest fs xs hf hx =
       let s = bracket_sound ts fs rest hf in
@@ -195,7 +203,8 @@ module _ {A : Type 0} {make : Field → Option A} {g : A → Field} {spell : A �
 
   -- ---- a bracket, of none too
 
-  pub within_list_sound : (ts rest : Text) (fs : List Field) (xs : List A) → bracket ts ≡ Some (fs, rest) → collected make [] (within fs) ≡ Some xs →
+  pub within_list_sound : (ts rest : Text) (fs : List Field) (xs : List A) → bracket ts ≡ Some (fs, rest) →
+      collected make [] (within fs) ≡ Some xs →
       (spell_all xs ++ punctuated mark.Close rest ≡ ts) × (well_all xs ≡ true)
   within_list_sound ts rest fs xs hf hx =
       let s = bracket_sound ts fs rest hf in
@@ -211,7 +220,8 @@ module _ {A : Type 0} {make : Field → Option A} {g : A → Field} {spell : A �
   inside [] = field None spread.Empty ∷ []
   inside (x ∷ xs) = fields (x ∷ xs)
 
-  pub within_list_again : (xs : List A) (rest : Text) → well_all xs ≡ true → bracket (spell_all xs ++ punctuated mark.Close rest) ≡ Some (inside xs, rest)
+  pub within_list_again : (xs : List A) (rest : Text) → well_all xs ≡ true →
+      bracket (spell_all xs ++ punctuated mark.Close rest) ≡ Some (inside xs, rest)
   within_list_again [] rest h = bracket_nothing rest
   within_list_again (x ∷ xs) rest h = bracket_list_again x xs rest h
 
