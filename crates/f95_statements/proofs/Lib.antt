@@ -1,2 +1,4 @@
+pub mod ActionLaws
 pub mod AttributeSteps
+pub mod ConditionLaws
 pub mod PrefixSteps

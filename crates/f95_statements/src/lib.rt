@@ -5,10 +5,12 @@
 
 mod action;
 mod declaration;
+mod laws;
 mod procedure;
 
 pub use action::{
     Condition, HeaderAt, action_of, assigned, conditioned, headed, listed, name_at_end,
 };
 pub use declaration::{Typed, declaration_of, type_of};
+pub use laws::actions_as_spelled;
 pub use procedure::{procedure_of, typed_form};
