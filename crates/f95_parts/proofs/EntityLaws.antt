@@ -69,25 +69,30 @@ named_sound = reference_cases NamedSound
     (λ n i a h. let q = sym (ap (entity_in i) (seen-Whole n)) ∙ h in let is : entity n None i ≡ a = cc in
     (ap of_entity is, (ap (λ (a : Entity). a.initial) is, sym (ap (λ (a : Entity). some_dims a.dims) is))))
     (λ n xs i a h. mapped (λ dims. entity n (Some dims) i) (dims_of xs) a (sym (ap (entity_in i) (seen-Items n xs)) ∙ h)
-        (λ ds hd is.
-    let d = dims_sound xs ds hd in
-    (ap (r.Items n) d.0 ∙ ap of_entity is,
-     (ap (λ (a : Entity). a.initial) is, sym (ap (λ (a : Entity). some_dims a.dims) is) ∙ d.1))))
+    (λ ds hd is.
+    let d = dims_sound xs ds hd in (
+      ap (r.Items n) d.0 ∙ ap of_entity is,
+      (ap (λ (a : Entity). a.initial) is, sym (ap (λ (a : Entity). some_dims a.dims) is) ∙ d.1),
+    )))
     (λ n xs b c i a h. let q = sym (ap (entity_in i) (seen-Substring n xs b c)) ∙ h in absurd (cc))
 
 sound_from : (left : Option Expression) (s : Spread) (a : Entity) → entity_from left s ≡ Some a →
     (field left s ≡ entity_field a) × (some_dims a.dims ≡ true)
 sound_from None s a h = chained (λ x. option_and_then (entity_named None) (as_reference x)) (spread_expression s) a h (λ x hx h2.
     chained (entity_named None) (as_reference x) a h2 (λ y hy h3.
-    let n = named_sound y None a h3 in
-    (ap (field None) (spread_sound s x hx) ∙ ap (λ x. field None (spread.One (v.One x))) (as_reference_sound x y hy)
-     ∙ ap reference_field n.0 ∙ ap (λ i. named_field i (of_entity a)) n.1.0, n.1.1)))
+    let n = named_sound y None a h3 in (
+      ap (field None) (spread_sound s x hx) ∙ ap (λ x. field None (spread.One (v.One x))) (as_reference_sound x y hy)
+          ∙ ap reference_field n.0 ∙ ap (λ i. named_field i (of_entity a)) n.1.0,
+      n.1.1,
+    )))
 sound_from (Some left) s a h = chained (λ i. option_and_then (entity_named (Some i)) (as_reference left)) (spread_expression s) a h
     (λ i hi h2.
     chained (entity_named (Some i)) (as_reference left) a h2 (λ y hy h3.
-    let n = named_sound y (Some i) a h3 in
-    (ap (λ l. field (Some l) s) (as_reference_sound left y hy) ∙ ap (field (Some (e.Reference y))) (spread_sound s i hi)
-     ∙ ap (named_field (Some i)) n.0 ∙ ap (λ i. named_field i (of_entity a)) n.1.0, n.1.1)))
+    let n = named_sound y (Some i) a h3 in (
+      ap (λ l. field (Some l) s) (as_reference_sound left y hy) ∙ ap (field (Some (e.Reference y))) (spread_sound s i hi)
+          ∙ ap (named_field (Some i)) n.0 ∙ ap (λ i. named_field i (of_entity a)) n.1.0,
+      n.1.1,
+    )))
 
 pub entity_sound : (f : Field) (a : Entity) → entity_of f ≡ Some a → (f ≡ entity_field a) × (some_dims a.dims ≡ true)
 entity_sound f a h = sound_from f.left f.spread a h
@@ -122,7 +127,7 @@ spelled_by None n ds = reference_text (entity_reference n ds) ∙ reference_spel
     ∙ ap (λ t. terminal.Name n ∷ t) (sym (append-nil (maybe_dims ds)))
 spelled_by (Some i) n ds =
     ap (λ t. (t ++ punctuated mark.Assign []) ++ value (v.One i))
-        (expression-Reference (entity_reference n ds) ∙ reference_spelled n ds)
+    (expression-Reference (entity_reference n ds) ∙ reference_spelled n ds)
     ∙ append_assoc (terminal.Name n ∷ maybe_dims ds) (punctuated mark.Assign []) (value (v.One i))
     ∙ ap (λ t. terminal.Name n ∷ (maybe_dims ds ++ punctuated mark.Assign t)) (value-One i)
 
@@ -144,7 +149,7 @@ pub entity_meets : (f : Field) (a : Entity) → entity_of f ≡ Some a → well_
 entity_meets f a h q =
     let s = entity_sound f a h in
     let ws = both (all_dims a.dims) (maybe_well_expression a.initial)
-        (sym (well_by a.initial a.name a.dims) ∙ sym (ap well_field s.0) ∙ q) in
+    (sym (well_by a.initial a.name a.dims) ∙ sym (ap well_field s.0) ∙ q) in
     joined (maybe_well_dims a.dims) (maybe_well_expression a.initial) (dims_joined a.dims s.1 ws.0) ws.1
 
 pub entity_kept : (a : Entity) → well_entity a ≡ true → well_field (entity_field a) ≡ true

@@ -61,7 +61,7 @@ well_parts : (h : Header) → some h.indices ≡ true → all (map well_index h.
     well_header h ≡ true
 well_parts h a b c =
     joined (some h.indices) (all (map well_index h.indices) && maybe_well_expression h.mask) a
-        (joined (all (map well_index h.indices)) (maybe_well_expression h.mask) b c)
+    (joined (all (map well_index h.indices)) (maybe_well_expression h.mask) b c)
 
 unmasked_sound : (fs : List Field) (h : Header) → indices_of None fs ≡ Some h → well_fields fs ≡ true → HeaderIs fs h
 unmasked_sound fs h q w =
@@ -88,12 +88,12 @@ pub header_sound : (fs : List Field) (h : Header) → header_of fs ≡ Some h �
 header_sound [] h q w = absurd (cc)
 header_sound (f ∷ fs) h q w =
     let is = by_test
-        (λ b. (if b then indices_of None (f ∷ fs) else option_and_then (λ mask. indices_of (Some mask) fs) (expression_of f))
-          ≡ Some h → HeaderIs (f ∷ fs) h)
-        (has_left f)
-        (λ _ q. unmasked_sound (f ∷ fs) h q w)
-        (λ _ q. chained (λ mask. indices_of (Some mask) fs) (expression_of f) h q
-            (λ x hx q2. masked_sound f fs x h (expression_sound f x hx) q2 w)) q in
+    (λ b. (if b then indices_of None (f ∷ fs) else option_and_then (λ mask. indices_of (Some mask) fs) (expression_of f))
+    ≡ Some h → HeaderIs (f ∷ fs) h)
+    (has_left f)
+    (λ _ q. unmasked_sound (f ∷ fs) h q w)
+    (λ _ q. chained (λ mask. indices_of (Some mask) fs) (expression_of f) h q
+    (λ x hx q2. masked_sound f fs x h (expression_sound f x hx) q2 w)) q in
     (is.spelled, is.kept)
 
 -- ---- again
@@ -116,7 +116,7 @@ again_by None i is w =
 again_by (Some x) i is w =
     let fs = onto (map index_field (i ∷ is)) [] in
     ap (option_and_then (λ mask. indices_of (Some mask) fs)) (expression_again x)
-        ∙ indices_by (Some x) fs (fields_some indices i is)
+    ∙ indices_by (Some x) fs (fields_some indices i is)
     ∙ ap (option_map (header (Some x))) (collected_fields indices (i ∷ is) w)
 
 spelled_by : (mask : Option Expression) (i : Index) (is : List Index) →
@@ -124,7 +124,7 @@ spelled_by : (mask : Option Expression) (i : Index) (is : List Index) →
 spelled_by None i is = fields_spelled indices (i ∷ is) ∙ sym (append-nil (commas (map index_text (i ∷ is))))
 spelled_by (Some x) i is =
     behind_fields (onto (map index_field (i ∷ is)) []) (expression_field x) (expression x) (fields_some indices i is)
-        (expression_text x)
+    (expression_text x)
     ∙ ap (λ t. t ++ punctuated mark.Comma (expression x)) (fields_spelled indices (i ∷ is))
 
 well_by : (mask : Option Expression) (is : List Index) → all (map well_index is) ≡ true → maybe_well_expression mask ≡ true →

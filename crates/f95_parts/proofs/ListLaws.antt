@@ -101,7 +101,6 @@ within_long (h ∷ fs) f g d = within_long fs h f (g ∷ d)
 
 module _ {A : Type 0} {make : Field → Option A} {g : A → Field} {spell : A → Text} {w : A → Bool}
     (parts : Parts make g spell w) where
-
   abbrev pub spell_all : List A → Text
   spell_all xs = commas (map spell xs)
 
@@ -159,7 +158,7 @@ module _ {A : Type 0} {make : Field → Option A} {g : A → Field} {spell : A �
   something : (x : A) → w x ≡ true → is_nothing (g x) ≡ false
   something x h = by_test (λ b. b ≡ is_nothing (g x) → is_nothing (g x) ≡ false) (is_nothing (g x))
       (λ e _. let q = sym (parts.again x h) ∙ ap make (nothing_is (g x).left (g x).spread e) ∙ parts.never in absurd (cc))
-          (λ e _. e) refl
+      (λ e _. e) refl
 
   -- ---- a row
 
@@ -182,8 +181,8 @@ module _ {A : Type 0} {make : Field → Option A} {g : A → Field} {spell : A �
   pub row_list_some : (x : A) (xs : List A) → well_all (x ∷ xs) ≡ true → spell_all (x ∷ xs) ≡ [] → ⊥
   row_list_some x xs h e =
       let q = sym (row_list_again x xs h) ∙ ap (λ t. option_and_then (collected make []) (row t)) e
-          ∙ ap (option_and_then (collected make [])) (row_again (field None spread.Empty) [] refl)
-          ∙ ap (option_and_then (λ a. collected make (a ∷ []) [])) parts.never in absurd (cc)
+      ∙ ap (option_and_then (collected make [])) (row_again (field None spread.Empty) [] refl)
+      ∙ ap (option_and_then (λ a. collected make (a ∷ []) [])) parts.never in absurd (cc)
 
   -- ---- a bracket, of at least one
 
@@ -191,9 +190,10 @@ module _ {A : Type 0} {make : Field → Option A} {g : A → Field} {spell : A �
       collected make [] fs ≡ Some xs →
       (spell_all xs ++ punctuated mark.Close rest ≡ ts) × ((some xs && well_all xs) ≡ true)
   bracket_list_sound ts rest fs xs hf hx =
-      let s = bracket_sound ts fs rest hf in
-      (ap (λ t. t ++ punctuated mark.Close rest) (collected_text fs xs hx) ∙ s.0,
-       joined (some xs) (well_all xs) (collected_some fs xs hx (bracket_some ts fs rest hf)) (collected_well fs xs hx s.1))
+      let s = bracket_sound ts fs rest hf in (
+        ap (λ t. t ++ punctuated mark.Close rest) (collected_text fs xs hx) ∙ s.0,
+        joined (some xs) (well_all xs) (collected_some fs xs hx (bracket_some ts fs rest hf)) (collected_well fs xs hx s.1),
+      )
 
   pub bracket_list_again : (x : A) (xs : List A) (rest : Text) → well_all (x ∷ xs) ≡ true →
       bracket (spell_all (x ∷ xs) ++ punctuated mark.Close rest) ≡ Some (fields (x ∷ xs), rest)
@@ -207,9 +207,10 @@ module _ {A : Type 0} {make : Field → Option A} {g : A → Field} {spell : A �
       collected make [] (within fs) ≡ Some xs →
       (spell_all xs ++ punctuated mark.Close rest ≡ ts) × (well_all xs ≡ true)
   within_list_sound ts rest fs xs hf hx =
-      let s = bracket_sound ts fs rest hf in
-      (ap (λ t. t ++ punctuated mark.Close rest) (collected_text (within fs) xs hx ∙ within_text fs) ∙ s.0,
-       collected_well (within fs) xs hx (within_well fs s.1))
+      let s = bracket_sound ts fs rest hf in (
+        ap (λ t. t ++ punctuated mark.Close rest) (collected_text (within fs) xs hx ∙ within_text fs) ∙ s.0,
+        collected_well (within fs) xs hx (within_well fs s.1),
+      )
 
   within_fields : (x : A) (xs : List A) → w x ≡ true → within (fields (x ∷ xs)) ≡ fields (x ∷ xs)
   within_fields x [] h = ap (λ b. if b then [] else g x ∷ []) (something x h)

@@ -47,9 +47,9 @@ part_sound : {A : Type 0} (make : A → Action) (spell : A → Text) (w : A → 
     ((x : A) → action_text (make x) ≡ lead (spell x)) → ((x : A) → well_action (make x) ≡ w x) →
     option_map make o ≡ Some a → ActionIs (lead ts) a
 part_sound make spell w lead o ts a sound text wells h = mapped make o a h (λ x hx is. let s = sound x hx in record {
-    spelled = ap action_text (sym is) ∙ text x ∙ ap lead s.spelled;
-    kept = ap well_action (sym is) ∙ wells x ∙ s.kept;
-  })
+  spelled = ap action_text (sym is) ∙ text x ∙ ap lead s.spelled;
+  kept = ap well_action (sym is) ∙ wells x ∙ s.kept;
+})
 
 abbrev behind_word : ActionWord → Text → Text
 behind_word w ts = action_word w ∷ ts
@@ -61,13 +61,13 @@ arguments_sound : (n : Word) (ts : Text) (a : Action) → option_map (λ xs. act
 arguments_sound n ts a h =
     part_sound (λ xs. act.Call n (Some xs)) (λ xs. in_brackets (commas (map argument_text xs))) (λ xs. all (map well_argument xs))
     (λ t. behind_word word.Call (terminal.Name n ∷ t)) (arguments_of ts) ts a (λ xs hx. within_sound arguments ts xs hx)
-        (λ xs. refl) (λ xs. refl) h
+    (λ xs. refl) (λ xs. refl) h
 
 call_named_sound : (p : Word × Text) (a : Action) → call_named p ≡ Some a →
     ActionIs (behind_word word.Call (terminal.Name p.0 ∷ p.1)) a
 call_named_sound p a h = by_test
     (λ b. (if b then Some (act.Call p.0 None) else option_map (λ xs. act.Call p.0 (Some xs)) (arguments_of p.1)) ≡ Some a
-      → ActionIs (behind_word word.Call (terminal.Name p.0 ∷ p.1)) a)
+    → ActionIs (behind_word word.Call (terminal.Name p.0 ∷ p.1)) a)
     (is_nil p.1)
     (λ e h. let is : act.Call p.0 None ≡ a = cc in record {
       spelled = ap action_text (sym is) ∙ ap (λ t. behind_word word.Call (terminal.Name p.0 ∷ t)) (sym (nil p.1 e));
@@ -98,7 +98,7 @@ print_sound : (ts : Text) (a : Action) → print_of ts ≡ Some a → ActionIs (
 print_sound ts a h = chained (λ rest. option_map act.Print (listed_behind expression_of rest)) (behind_star ts) a h (λ rest hr ha.
     subst (λ t. ActionIs (behind_word word.Print t) a) (sym (star_sound ts rest hr))
     (part_sound act.Print (λ xs. behind_commas (map expression xs)) (λ xs. all (map well xs))
-        (λ t. behind_word word.Print (star ∷ t))
+    (λ t. behind_word word.Print (star ∷ t))
     (listed_behind expression_of rest) rest a (λ xs hx. listed_behind_sound expressions rest xs hx) (λ xs. refl) (λ xs. refl) ha))
 
 write_sound : (ts : Text) (a : Action) → write_of ts ≡ Some a → ActionIs (behind_word word.Write ts) a
@@ -111,7 +111,7 @@ read_unit_sound : (ts : Text) (a : Action) → read_unit ts ≡ Some a → Actio
 read_unit_sound ts a h = chained (λ rest. option_map act.ReadUnit (listed reference_of rest)) (behind_unit ts) a h (λ rest hr ha.
     subst (λ t. ActionIs (behind_word word.Read t) a) (unit_sound ts rest hr)
     (part_sound act.ReadUnit (λ xs. commas (map reference xs)) (λ xs. all (map well_reference xs))
-        (λ t. behind_word word.Read (any_unit ++ t))
+    (λ t. behind_word word.Read (any_unit ++ t))
     (listed reference_of rest) rest a (λ xs hx. listed_sound references rest xs hx) (λ xs. refl) (λ xs. refl) ha))
 
 read_by_sound : (o : Option Text) (ts : Text) (a : Action) → behind_star ts ≡ o → read_by o ts ≡ Some a →
@@ -120,7 +120,7 @@ read_by_sound None ts a hr h = read_unit_sound ts a h
 read_by_sound (Some rest) ts a hr h =
     subst (λ t. ActionIs (behind_word word.Read t) a) (sym (star_sound ts rest hr))
     (part_sound act.Read (λ xs. behind_commas (map reference xs)) (λ xs. all (map well_reference xs))
-        (λ t. behind_word word.Read (star ∷ t))
+    (λ t. behind_word word.Read (star ∷ t))
     (listed_behind reference_of rest) rest a (λ xs hx. listed_behind_sound references rest xs hx) (λ xs. refl) (λ xs. refl) h)
 
 -- ---- what stands at the end
@@ -144,17 +144,17 @@ code_sound ts c h = chained stop_code (option_and_then at_end (behind_literal ts
 stop_sound : (ts : Text) (a : Action) → stop_of ts ≡ Some a → ActionIs (behind_word word.Stop ts) a
 stop_sound ts a h = by_test
     (λ b. (if b then Some (act.Stop None)
-      else option_map (λ code. act.Stop (Some code))
-          (option_and_then stop_code (option_and_then at_end (behind_literal ts)))) ≡ Some a
-      → ActionIs (behind_word word.Stop ts) a)
+    else option_map (λ code. act.Stop (Some code))
+    (option_and_then stop_code (option_and_then at_end (behind_literal ts)))) ≡ Some a
+    → ActionIs (behind_word word.Stop ts) a)
     (is_nil ts)
     (λ e h. let is : act.Stop None ≡ a = cc in record {
       spelled = ap action_text (sym is) ∙ ap (behind_word word.Stop) (sym (nil ts e));
       kept = ap well_action (sym is);
     })
     (λ _ h. part_sound (λ code. act.Stop (Some code)) (λ c. maybe_literal (Some c))
-        (λ c. well_stop (Some c)) (behind_word word.Stop)
-      (option_and_then stop_code (option_and_then at_end (behind_literal ts))) ts a (code_sound ts) (λ c. refl) (λ c. refl) h)
+    (λ c. well_stop (Some c)) (behind_word word.Stop)
+    (option_and_then stop_code (option_and_then at_end (behind_literal ts))) ts a (code_sound ts) (λ c. refl) (λ c. refl) h)
     h
 
 alone_sound : (w : ActionWord) (b : Action) (ts : Text) (a : Action) → action_text b ≡ behind_word w [] → well_action b ≡ true →
@@ -172,12 +172,12 @@ name_end_is ts n h = record { spelled = sym (name_end_sound ts n h); kept = refl
 exit_sound : (ts : Text) (a : Action) → option_map act.Exit (name_at_end ts) ≡ Some a → ActionIs (behind_word word.Exit ts) a
 exit_sound ts a h =
     part_sound act.Exit maybe_named (λ _. true) (behind_word word.Exit) (name_at_end ts) ts a (name_end_is ts) (λ n. refl)
-        (λ n. refl) h
+    (λ n. refl) h
 
 cycle_sound : (ts : Text) (a : Action) → option_map act.Cycle (name_at_end ts) ≡ Some a → ActionIs (behind_word word.Cycle ts) a
 cycle_sound ts a h =
     part_sound act.Cycle maybe_named (λ _. true) (behind_word word.Cycle) (name_at_end ts) ts a (name_end_is ts) (λ n. refl)
-        (λ n. refl) h
+    (λ n. refl) h
 
 action_by_sound : (w : ActionWord) (ts : Text) (a : Action) → action_by w ts ≡ Some a → ActionIs (behind_word w ts) a
 action_by_sound word.Call ts a h = call_sound ts a h
@@ -230,7 +230,7 @@ keyed_sound : (o : Option (Keyword × Text)) (ts : Text) (a : Action) → behind
     ActionIs ts a
 keyed_sound None ts a hk h =
     part_sound act.Assignment assignment_text well_assignment (λ t. t) (assigned ts) ts a (assigned_sound ts) (λ x. refl)
-        (λ x. refl) h
+    (λ x. refl) h
 keyed_sound (Some p) ts a hk h = subst (λ t. ActionIs t a) (sym (keyword_sound ts p hk)) (worded_sound p.0 p.1 a h)
 
 pub action_sound : (ts : Text) (a : Action) → action_of ts ≡ Some a → ActionIs ts a

@@ -34,18 +34,18 @@ only_sound (g ∷ h' ∷ fs) f h = absurd (cc)
 pub assigned_sound : (ts : Text) (a : Assignment) → assigned ts ≡ Some a → Is assignment_text well_assignment ts a
 assigned_sound ts a h = chained (λ fs. option_and_then assignment_of (only fs)) (row ts) a h (λ fs hfs h2.
     chained assignment_of (only fs) a h2 (λ f hf ha.
-      let found = row_sound ts fs hfs in
-      let one = only_sound fs f hf ∙ ap (λ f. f ∷ []) (assignment_sound f a ha) in
-      record {
-        spelled = sym (assignment_spelled a) ∙ sym (ap fields_text one) ∙ found.0;
-        kept = sym (assignment_well a) ∙ sym (ap well_fields one) ∙ found.1;
-      }))
+    let found = row_sound ts fs hfs in
+    let one = only_sound fs f hf ∙ ap (λ f. f ∷ []) (assignment_sound f a ha) in
+    record {
+      spelled = sym (assignment_spelled a) ∙ sym (ap fields_text one) ∙ found.0;
+      kept = sym (assignment_well a) ∙ sym (ap well_fields one) ∙ found.1;
+    }))
 
 pub assigned_again : (a : Assignment) → well_assignment a ≡ true → assigned (assignment_text a) ≡ Some a
 assigned_again a w =
     ap assigned (sym (assignment_spelled a))
-    ∙ ap (option_and_then (λ fs. option_and_then assignment_of (only fs))) 
-        (row_again (assignment_field a) [] (assignment_well a ∙ w))
+    ∙ ap (option_and_then (λ fs. option_and_then assignment_of (only fs)))
+    (row_again (assignment_field a) [] (assignment_well a ∙ w))
     ∙ assignment_again a
 
 -- ---- brackets and what stands behind them
@@ -81,15 +81,15 @@ pub conditioned_sound : (ts : Text) (p : Expression × Text) → conditioned ts 
 conditioned_sound ts p h = chained (λ inside. option_and_then condition_in (bracket inside)) (behind mark.Open ts) p h
     (λ inside hi h2.
     chained condition_in (bracket inside) p h2 (λ found hf h3.
-      mapped (λ x. (x, found.1)) (option_and_then expression_of (only found.0)) p h3 (λ x hx is.
-        subst (λ (p : Expression × Text). Behind condition_text well ts p.0 p.1) is
-          (condition_here ts inside found.0 found.1 x (behind_sound mark.Open ts inside hi) hf hx))))
+    mapped (λ x. (x, found.1)) (option_and_then expression_of (only found.0)) p h3 (λ x hx is.
+    subst (λ (p : Expression × Text). Behind condition_text well ts p.0 p.1) is
+    (condition_here ts inside found.0 found.1 x (behind_sound mark.Open ts inside hi) hf hx))))
 
 pub conditioned_again : (x : Expression) (rest : Text) → well x ≡ true →
     conditioned (in_brackets (expression x) ++ rest) ≡ Some (x, rest)
 conditioned_again x rest w =
     ap conditioned (brackets_before (expression x) rest
-        ∙ ap (λ t. punctuated mark.Open (t ++ punctuated mark.Close rest)) (sym (expression_text x)))
+    ∙ ap (λ t. punctuated mark.Open (t ++ punctuated mark.Close rest)) (sym (expression_text x)))
     ∙ ap (option_and_then condition_in) (bracket_again (expression_field x) [] rest (expression_well x ∙ w))
     ∙ ap (option_map (λ x. (x, rest))) (expression_again x)
 
@@ -112,15 +112,15 @@ header_here ts inside fs rest x is found h =
 pub headed_sound : (ts : Text) (p : Header × Text) → headed ts ≡ Some p → Behind header_text well_header ts p.0 p.1
 headed_sound ts p h = chained (λ inside. option_and_then header_in (bracket inside)) (behind mark.Open ts) p h (λ inside hi h2.
     chained header_in (bracket inside) p h2 (λ found hf h3.
-      mapped (λ x. (x, found.1)) (header_of found.0) p h3 (λ x hx is.
-        subst (λ (p : Header × Text). Behind header_text well_header ts p.0 p.1) is
-          (header_here ts inside found.0 found.1 x (behind_sound mark.Open ts inside hi) hf hx))))
+    mapped (λ x. (x, found.1)) (header_of found.0) p h3 (λ x hx is.
+    subst (λ (p : Header × Text). Behind header_text well_header ts p.0 p.1) is
+    (header_here ts inside found.0 found.1 x (behind_sound mark.Open ts inside hi) hf hx))))
 
 pub headed_again : (x : Header) (rest : Text) → well_header x ≡ true → headed (header_text x ++ rest) ≡ Some (x, rest)
 headed_again x rest w =
     let a = header_again x w in
     ap headed (brackets_before (inside_text x) rest
-        ∙ ap (λ t. punctuated mark.Open (t ++ punctuated mark.Close rest)) (sym a.spelled))
+    ∙ ap (λ t. punctuated mark.Open (t ++ punctuated mark.Close rest)) (sym a.spelled))
     ∙ ap (option_and_then header_in) (bracket_fields (header_fields x) rest a.filled a.kept)
     ∙ ap (option_map (λ x. (x, rest))) a.again
 
@@ -154,7 +154,6 @@ whole_bracket_again t fs h = ap (option_and_then at_end) h
 
 module _ {A : Type 0} {make : Field → Option A} {g : A → Field} {spell : A → Text} {w : A → Bool}
     (parts : Parts make g spell w) where
-
   -- in brackets, at least one
   pub whole_list_sound : (ts : Text) (xs : List A) → option_and_then (collected make []) (whole_bracket ts) ≡ Some xs →
       Is (λ xs. in_brackets (commas (map spell xs))) (λ xs. some xs && all (map w xs)) ts xs
@@ -170,7 +169,7 @@ module _ {A : Type 0} {make : Field → Option A} {g : A → Field} {spell : A �
   whole_list_again [] h = absurd (cc)
   whole_list_again (x ∷ xs) h =
       ap (option_and_then (collected make []))
-          (whole_bracket_again (commas (map spell (x ∷ xs))) _ (bracket_list_again parts x xs [] h))
+      (whole_bracket_again (commas (map spell (x ∷ xs))) _ (bracket_list_again parts x xs [] h))
       ∙ collected_fields parts (x ∷ xs) h
 
   -- in brackets, or none
@@ -188,7 +187,7 @@ module _ {A : Type 0} {make : Field → Option A} {g : A → Field} {spell : A �
       option_and_then (λ fs. collected make [] (within fs)) (whole_bracket (in_brackets (commas (map spell xs)))) ≡ Some xs
   within_again xs h =
       ap (option_and_then (λ fs. collected make [] (within fs)))
-          (whole_bracket_again (commas (map spell xs)) _ (within_list_again parts xs [] h))
+      (whole_bracket_again (commas (map spell xs)) _ (within_list_again parts xs [] h))
       ∙ collected_inside parts xs h
 
   -- in a row, or none
@@ -196,7 +195,7 @@ module _ {A : Type 0} {make : Field → Option A} {g : A → Field} {spell : A �
       Is (λ xs. commas (map spell xs)) (λ xs. all (map w xs)) ts xs
   listed_sound ts xs h = by_test
       (λ b. (if b then Some [] else option_and_then (collected make []) (row ts)) ≡ Some xs →
-          Is (λ xs. commas (map spell xs)) (λ xs. all (map w xs)) ts xs)
+      Is (λ xs. commas (map spell xs)) (λ xs. all (map w xs)) ts xs)
       (is_nil ts)
       (λ e h. let is : [] ≡ xs = cc in record {
         spelled = sym (ap (λ xs. commas (map spell xs)) is) ∙ sym (nil ts e);
@@ -228,19 +227,19 @@ module _ {A : Type 0} {make : Field → Option A} {g : A → Field} {spell : A �
       Is (λ xs. behind_commas (map spell xs)) (λ xs. all (map w xs)) ts xs
   listed_behind_sound ts xs h = by_test
       (λ b. (if b then Some [] else option_and_then
-          (λ rest. option_and_then (collected make []) (row rest)) (behind mark.Comma ts)) ≡ Some xs
-        → Is (λ xs. behind_commas (map spell xs)) (λ xs. all (map w xs)) ts xs)
+      (λ rest. option_and_then (collected make []) (row rest)) (behind mark.Comma ts)) ≡ Some xs
+      → Is (λ xs. behind_commas (map spell xs)) (λ xs. all (map w xs)) ts xs)
       (is_nil ts)
       (λ e h. let is : [] ≡ xs = cc in record {
         spelled = sym (ap (λ xs. behind_commas (map spell xs)) is) ∙ sym (nil ts e);
         kept = sym (ap (λ xs. all (map w xs)) is);
       })
       (λ _ h. chained (λ rest. option_and_then (collected make []) (row rest)) (behind mark.Comma ts) xs h (λ rest hr hx.
-        let s = row_list_sound parts rest xs hx in
-        let ws = both (some xs) (all (map w xs)) s.kept in record {
-          spelled = behind_first xs ws.0 ∙ ap (punctuated mark.Comma) s.spelled ∙ sym (behind_sound mark.Comma ts rest hr);
-          kept = ws.1;
-        }))
+      let s = row_list_sound parts rest xs hx in
+      let ws = both (some xs) (all (map w xs)) s.kept in record {
+        spelled = behind_first xs ws.0 ∙ ap (punctuated mark.Comma) s.spelled ∙ sym (behind_sound mark.Comma ts rest hr);
+        kept = ws.1;
+      }))
       h
 
   pub listed_behind_again : (xs : List A) → all (map w xs) ≡ true → listed_behind make (behind_commas (map spell xs)) ≡ Some xs
@@ -261,7 +260,7 @@ unit_is ts a b c d rest ha hb hc hd h =
 pub unit_sound : (ts rest : Text) → behind_unit ts ≡ Some rest → any_unit ++ rest ≡ ts
 unit_sound ts rest h =
     chained (λ a. option_and_then
-      (λ b. option_and_then (λ c. option_and_then (behind mark.Close) (behind_star c)) (behind mark.Comma b)) (behind_star a))
+    (λ b. option_and_then (λ c. option_and_then (behind mark.Close) (behind_star c)) (behind mark.Comma b)) (behind_star a))
     (behind mark.Open ts) rest h (λ a ha h.
     chained (λ b. option_and_then (λ c. option_and_then (behind mark.Close) (behind_star c)) (behind mark.Comma b))
     (behind_star a) rest h (λ b hb h.
