@@ -1,5 +1,6 @@
 -- Attributes, one after another: what is read is spelled as the terminals, and what is spelled is read.
-use Rattle.std.proofs.Common.{◌≡◌, ℕ, zero, suc, length, Bool, true, false, ◌&&◌, List, [], ◌∷◌, ◌++◌, map, Option, Some, None, sym, ◌∙◌, ap, subst, refl, append_assoc, codes}
+use Rattle.std.proofs.Common.{◌≡◌, ℕ, zero, suc, length, Bool, true, false, ◌&&◌, List, [], ◌∷◌, ◌++◌, map, Option, Some, None,
+    sym, ◌∙◌, ap, subst, refl, append_assoc, codes}
 use Rattle.std.specs.Prelude.{option_map, option_and_then, if◌then◌else◌}
 use Rattle.f95_tree.specs.declared.expression.Item.{Item}
 use Rattle.f95_tree.specs.declared.declaration.Attribute.{Attribute}
@@ -24,7 +25,8 @@ use Rattle.f95_parts.specs.Parts.{dims_of}
 use Rattle.f95_parts.proofs.ViewLaws.{behind_sound, name_sound, word_sound}
 use Rattle.f95_parts.proofs.BoundLaws.{dim_item, dims_sound, dims_again, dims_spelled, dims_well}
 use Rattle.f95_parts.proofs.ListLaws.{Parts, parts_of, within_list_sound, within_list_again, collected_inside}
-use Rattle.f95_statements.specs.Declarations.{intent_named, behind_both, one_word, intent_at, closed_intent, intent_of, dimension_in, dimension_of, attribute_named, next_attribute, by_next, attributes_in, attributes_of}
+use Rattle.f95_statements.specs.Declarations.{intent_named, behind_both, one_word, intent_at, closed_intent, intent_of,
+    dimension_in, dimension_of, attribute_named, next_attribute, by_next, attributes_in, attributes_of}
 use Rattle.f95_statements.proofs.AttributeSteps.{attribute_stop, attribute_step}
 use Rattle.f95_statements.proofs.TypeLaws.{Leads, same_word}
 
@@ -38,7 +40,8 @@ intent_named_sound n i h =
     by_test (λ b. (if b then Some intent.In else (if is (codes "out") n then Some intent.Out
     else (if is (codes "inout") n then Some intent.InOut else None))) ≡ Some i → named n ≡ intent_text i) (is (codes "in") n)
     (λ yes h. let q : intent.In ≡ i = cc in ap named (same_word n (codes "in") yes) ∙ ap intent_text q)
-    (λ _. by_test (λ b. (if b then Some intent.Out else (if is (codes "inout") n then Some intent.InOut else None)) ≡ Some i → named n ≡ intent_text i) (is (codes "out") n)
+    (λ _. by_test (λ b. (if b then Some intent.Out else (if is (codes "inout") n then Some intent.InOut else None)) ≡ Some i →
+        named n ≡ intent_text i) (is (codes "out") n)
     (λ yes h. let q : intent.Out ≡ i = cc in ap named (same_word n (codes "out") yes) ∙ ap intent_text q)
     (λ _. by_test (λ b. (if b then Some intent.InOut else None) ≡ Some i → named n ≡ intent_text i) (is (codes "inout") n)
     (λ yes h. let q : intent.InOut ≡ i = cc in ap named (same_word n (codes "inout") yes) ∙ ap intent_text q)
@@ -57,17 +60,21 @@ both_sound ts rest h = chained (behind_word (codes "out")) (behind_word (codes "
     word_sound (codes "in") ts more hm ∙ ap (λ t. terminal.Name (codes "in") ∷ t) (word_sound (codes "out") more rest hr))
 
 intent_at_sound : (o : Option Text) (ts : Text) (p : Intent × Text) → behind_both ts ≡ o → intent_at o ts ≡ Some p → IntentIn ts p
-intent_at_sound (Some rest) ts p is h = let q : (intent.InAndOut, rest) ≡ p = cc in subst (IntentIn ts) q (sym (both_sound ts rest is))
+intent_at_sound (Some rest) ts p is h = let q : (intent.InAndOut, rest) ≡ p = cc in
+    subst (IntentIn ts) q (sym (both_sound ts rest is))
 intent_at_sound None ts p is h = one_word_sound ts p h
 
 intent_sound : (ts : Text) (p : Attribute × Text) → intent_of ts ≡ Some p → AttributeIn (terminal.Name (codes "intent") ∷ ts) p
-intent_sound ts p h = chained (λ inside. option_and_then closed_intent (intent_at (behind_both inside) inside)) (behind mark.Open ts) p h (λ inside hi h2.
+intent_sound ts p h = chained (λ inside.
+    option_and_then closed_intent (intent_at (behind_both inside) inside)) (behind mark.Open ts) p h (λ inside hi h2.
     chained closed_intent (intent_at (behind_both inside) inside) p h2 (λ q hq h3.
     mapped (λ rest. (attribute.Intent q.0, rest)) (behind mark.Close q.1) p h3 (λ rest hr is.
     subst (AttributeIn (terminal.Name (codes "intent") ∷ ts)) is record {
       spelled =
-        ap (λ t. terminal.Name (codes "intent") ∷ punctuated mark.Open t) (append_assoc (intent_text q.0) (punctuated mark.Close []) rest
-          ∙ ap (λ t. intent_text q.0 ++ t) (sym (behind_sound mark.Close q.1 rest hr)) ∙ intent_at_sound (behind_both inside) inside q refl hq)
+        ap (λ t. terminal.Name (codes "intent") ∷ punctuated mark.Open t)
+            (append_assoc (intent_text q.0) (punctuated mark.Close []) rest
+          ∙ ap (λ t. intent_text q.0 ++ t) (sym (behind_sound mark.Close q.1 rest hr))
+              ∙ intent_at_sound (behind_both inside) inside q refl hq)
         ∙ ap (λ t. terminal.Name (codes "intent") ∷ t) (sym (behind_sound mark.Open ts inside hi));
       kept = refl;
     })))
@@ -81,10 +88,13 @@ intent_again intent.InAndOut rest = refl
 -- ---- dimensions
 
 pub item_parts : Parts item_of item_field item well_item
-item_parts = parts_of item_of item_field item well_item (λ f x is. item_sound f.left f.spread x is) item_back item_text well_item_field refl
+item_parts = parts_of item_of item_field item well_item (λ f x is.
+    item_sound f.left f.spread x is) item_back item_text well_item_field refl
 
-dimension_sound : (ts : Text) (p : Attribute × Text) → dimension_of ts ≡ Some p → AttributeIn (terminal.Name (codes "dimension") ∷ ts) p
-dimension_sound ts p h = chained (λ inside. option_and_then dimension_in (bracket inside)) (behind mark.Open ts) p h (λ inside hi h2.
+dimension_sound : (ts : Text) (p : Attribute × Text) → dimension_of ts ≡ Some p →
+    AttributeIn (terminal.Name (codes "dimension") ∷ ts) p
+dimension_sound ts p h = chained (λ inside.
+    option_and_then dimension_in (bracket inside)) (behind mark.Open ts) p h (λ inside hi h2.
     chained dimension_in (bracket inside) p h2 (λ found hf h3.
     mapped (λ dims. (attribute.Dimension dims, found.1)) (option_and_then dims_of (items_of found.0)) p h3 (λ dims hd is.
     chained dims_of (items_of found.0) dims hd (λ xs hx hds.
@@ -92,13 +102,17 @@ dimension_sound ts p h = chained (λ inside. option_and_then dimension_in (brack
     let d = dims_sound xs dims hds in
     subst (AttributeIn (terminal.Name (codes "dimension") ∷ ts)) is record {
       spelled =
-        ap (λ t. terminal.Name (codes "dimension") ∷ (t ++ found.1)) (sym (dims_spelled dims) ∙ sym (ap (λ xs. in_brackets (commas (map item xs))) d.0))
-        ∙ ap (λ t. terminal.Name (codes "dimension") ∷ punctuated mark.Open t) (append_assoc (commas (map item xs)) (punctuated mark.Close []) found.1 ∙ l.0)
+        ap (λ t. terminal.Name (codes "dimension") ∷ (t ++ found.1)) (sym (dims_spelled dims)
+            ∙ sym (ap (λ xs. in_brackets (commas (map item xs))) d.0))
+        ∙ ap (λ t. terminal.Name (codes "dimension") ∷ punctuated mark.Open t)
+            (append_assoc (commas (map item xs)) (punctuated mark.Close []) found.1 ∙ l.0)
         ∙ ap (λ t. terminal.Name (codes "dimension") ∷ t) (sym (behind_sound mark.Open ts inside hi));
-      kept = joined (some dims) (all (map well_dim dims)) d.1 (sym (dims_well dims) ∙ sym (ap (λ xs. all (map well_item xs)) d.0) ∙ l.1);
+      kept = joined (some dims) (all (map well_dim dims)) d.1 (sym (dims_well dims) ∙ sym (ap (λ xs. all (map well_item xs)) d.0)
+          ∙ l.1);
     }))))
 
-dimension_again : (dims : List Dim) (rest : Text) → well_dims dims ≡ true → dimension_of (dims_text dims ++ rest) ≡ Some (attribute.Dimension dims, rest)
+dimension_again : (dims : List Dim) (rest : Text) → well_dims dims ≡ true →
+    dimension_of (dims_text dims ++ rest) ≡ Some (attribute.Dimension dims, rest)
 dimension_again dims rest w =
     let ws = both (some dims) (all (map well_dim dims)) w in
     let xs = map dim_item dims in
@@ -106,27 +120,36 @@ dimension_again dims rest w =
     ap (λ t. dimension_of (t ++ rest)) (sym (dims_spelled dims))
     ∙ ap (λ t. option_and_then dimension_in (bracket t)) (append_assoc (commas (map item xs)) (punctuated mark.Close []) rest)
     ∙ ap (option_and_then dimension_in) (within_list_again item_parts xs rest wells)
-    ∙ ap (λ o. option_map (λ dims. (attribute.Dimension dims, rest)) (option_and_then dims_of o)) (collected_inside item_parts xs wells)
+    ∙ ap (λ o. option_map (λ dims. (attribute.Dimension dims, rest)) (option_and_then dims_of o))
+        (collected_inside item_parts xs wells)
     ∙ ap (option_map (λ dims. (attribute.Dimension dims, rest))) (dims_again dims ws.0)
 
 -- ---- one attribute
 
 named_sound : (q : Word × Text) (p : Attribute × Text) → attribute_named q ≡ Some p → AttributeIn (terminal.Name q.0 ∷ q.1) p
 named_sound q p h =
-    by_test (λ b. (if b then Some (attribute.Parameter, q.1) else (if is (codes "allocatable") q.0 then Some (attribute.Allocatable, q.1)
-    else (if is (codes "dimension") q.0 then dimension_of q.1 else (if is (codes "intent") q.0 then intent_of q.1 else None)))) ≡ Some p → AttributeIn (terminal.Name q.0 ∷ q.1) p)
+    by_test (λ b. (if b then Some (attribute.Parameter, q.1) else
+        (if is (codes "allocatable") q.0 then Some (attribute.Allocatable, q.1)
+    else (if is (codes "dimension") q.0 then dimension_of q.1 else (if is (codes "intent") q.0 then intent_of q.1 else None)))) ≡
+        Some p → AttributeIn (terminal.Name q.0 ∷ q.1) p)
       (is (codes "parameter") q.0)
     (λ yes h. let e : (attribute.Parameter, q.1) ≡ p = cc in
-      subst (AttributeIn (terminal.Name q.0 ∷ q.1)) e record { spelled = ap (λ n. terminal.Name n ∷ q.1) (sym (same_word q.0 (codes "parameter") yes)); kept = refl })
+      subst (AttributeIn (terminal.Name q.0 ∷ q.1)) e record { spelled =
+          ap (λ n. terminal.Name n ∷ q.1) (sym (same_word q.0 (codes "parameter") yes)); kept = refl })
     (λ _. by_test (λ b. (if b then Some (attribute.Allocatable, q.1)
-    else (if is (codes "dimension") q.0 then dimension_of q.1 else (if is (codes "intent") q.0 then intent_of q.1 else None))) ≡ Some p → AttributeIn (terminal.Name q.0 ∷ q.1) p)
+    else (if is (codes "dimension") q.0 then dimension_of q.1 else (if is (codes "intent") q.0 then intent_of q.1 else None))) ≡
+        Some p → AttributeIn (terminal.Name q.0 ∷ q.1) p)
       (is (codes "allocatable") q.0)
     (λ yes h. let e : (attribute.Allocatable, q.1) ≡ p = cc in
-      subst (AttributeIn (terminal.Name q.0 ∷ q.1)) e record { spelled = ap (λ n. terminal.Name n ∷ q.1) (sym (same_word q.0 (codes "allocatable") yes)); kept = refl })
-    (λ _. by_test (λ b. (if b then dimension_of q.1 else (if is (codes "intent") q.0 then intent_of q.1 else None)) ≡ Some p → AttributeIn (terminal.Name q.0 ∷ q.1) p)
+      subst (AttributeIn (terminal.Name q.0 ∷ q.1)) e record { spelled =
+          ap (λ n. terminal.Name n ∷ q.1) (sym (same_word q.0 (codes "allocatable") yes)); kept = refl })
+    (λ _. by_test (λ b. (if b then dimension_of q.1 else (if is (codes "intent") q.0 then intent_of q.1 else None)) ≡ Some p →
+        AttributeIn (terminal.Name q.0 ∷ q.1) p)
       (is (codes "dimension") q.0)
-    (λ yes h. subst (λ n. AttributeIn (terminal.Name n ∷ q.1) p) (sym (same_word q.0 (codes "dimension") yes)) (dimension_sound q.1 p h))
-    (λ _. by_test (λ b. (if b then intent_of q.1 else None) ≡ Some p → AttributeIn (terminal.Name q.0 ∷ q.1) p) (is (codes "intent") q.0)
+    (λ yes h. subst (λ n.
+        AttributeIn (terminal.Name n ∷ q.1) p) (sym (same_word q.0 (codes "dimension") yes)) (dimension_sound q.1 p h))
+    (λ _. by_test (λ b. (if b then intent_of q.1 else None) ≡ Some p →
+        AttributeIn (terminal.Name q.0 ∷ q.1) p) (is (codes "intent") q.0)
     (λ yes h. subst (λ n. AttributeIn (terminal.Name n ∷ q.1) p) (sym (same_word q.0 (codes "intent") yes)) (intent_sound q.1 p h))
     (λ _ h. absurd (cc))))) h
 
@@ -181,12 +204,14 @@ run_in (suc n) done ts = next_run n done ts (next_attribute ts) refl (λ p. run_
 pub attributes_sound : (done : List Attribute) (ts : Text) → Run done (attributes_of done ts).0 ts (attributes_of done ts).1
 attributes_sound done ts = run_in (length ts) done ts
 
-pub attributes_again : (attributes done : List Attribute) (rest : Text) → all (map well_attribute attributes) ≡ true → next_attribute rest ≡ None →
+pub attributes_again : (attributes done : List Attribute) (rest : Text) → all (map well_attribute attributes) ≡ true →
+    next_attribute rest ≡ None →
     attributes_of done (behind_commas (map attribute_text attributes) ++ rest) ≡ (onto attributes done, rest)
 attributes_again [] done rest w stops = attribute_stop done rest stops
 attributes_again (a ∷ more) done rest w stops =
     let ws = both (well_attribute a) (all (map well_attribute more)) w in
     let text = behind_commas (map attribute_text more) ++ rest in
-    ap (λ t. attributes_of done (punctuated mark.Comma t)) (append_assoc (attribute_text a) (behind_commas (map attribute_text more)) rest)
+    ap (λ t. attributes_of done (punctuated mark.Comma t))
+        (append_assoc (attribute_text a) (behind_commas (map attribute_text more)) rest)
     ∙ attribute_step done (behind_comma a ++ text) (a, text) (next_again a text ws.0)
     ∙ attributes_again more (a ∷ done) rest ws.1 stops

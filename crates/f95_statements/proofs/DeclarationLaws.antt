@@ -1,5 +1,6 @@
 -- Declarations: what is read is spelled as the terminals, and what is spelled is read.
-use Rattle.std.proofs.Common.{◌≡◌, Bool, true, false, ◌&&◌, ◌||◌, not, reverse, List, [], ◌∷◌, ◌++◌, map, Option, Some, None, sym, ◌∙◌, ap, subst, refl, append_assoc, append-nil}
+use Rattle.std.proofs.Common.{◌≡◌, Bool, true, false, ◌&&◌, ◌||◌, not, reverse, List, [], ◌∷◌, ◌++◌, map, Option, Some, None, sym,
+    ◌∙◌, ap, subst, refl, append_assoc, append-nil}
 use Rattle.std.specs.Prelude.{option_map, option_and_then, if◌then◌else◌}
 use Rattle.std.proofs.lemmas.List.{reverse-append, reverse-reverse}
 use Rattle.f95_tree.specs.declared.declaration.Attribute.{Attribute}
@@ -19,7 +20,8 @@ use Rattle.f95_parts.proofs.ViewLaws.{behind_sound}
 use Rattle.f95_parts.proofs.EntityLaws.{entity_field}
 use Rattle.f95_parts.proofs.Instances.{entity_parts}
 use Rattle.f95_parts.proofs.ListLaws.{Is, row_list_sound, row_list_again}
-use Rattle.f95_statements.specs.Declarations.{declaration, entities_of, no_initials, bare, declared_by, declared, declaration_of, next_attribute, attributes_of}
+use Rattle.f95_statements.specs.Declarations.{declaration, entities_of, no_initials, bare, declared_by, declared, declaration_of,
+    next_attribute, attributes_of}
 use Rattle.f95_statements.proofs.AttributeSteps.{attribute_stop}
 use Rattle.f95_statements.proofs.AttributeLaws.{Run, attributes_sound, attributes_again}
 
@@ -35,7 +37,8 @@ entities_sound : (ts : Text) (entities : List Entity) → entities_of ts ≡ Som
     Is entities_text (λ entities. some entities && well_entities entities) ts entities
 entities_sound ts entities h = row_list_sound entity_parts ts entities h
 
-entities_again : (entities : List Entity) → some entities ≡ true → well_entities entities ≡ true → entities_of (entities_text entities) ≡ Some entities
+entities_again : (entities : List Entity) → some entities ≡ true → well_entities entities ≡ true →
+    entities_of (entities_text entities) ≡ Some entities
 entities_again [] h w = absurd (cc)
 entities_again (a ∷ more) h w = row_list_again entity_parts a more w
 
@@ -43,7 +46,8 @@ entities_again (a ∷ more) h w = row_list_again entity_parts a more w
 
 onto_reversed : {A : Type 0} (xs d : List A) → onto xs d ≡ reverse xs ++ d
 onto_reversed [] d = refl
-onto_reversed (x ∷ xs) d = onto_reversed xs (x ∷ d) ∙ sym (ap (λ l. l ++ d) (reverse-append (x ∷ []) xs) ∙ append_assoc (reverse xs) (x ∷ []) d)
+onto_reversed (x ∷ xs) d = onto_reversed xs (x ∷ d)
+    ∙ sym (ap (λ l. l ++ d) (reverse-append (x ∷ []) xs) ∙ append_assoc (reverse xs) (x ∷ []) d)
 
 -- what was put one before another stands in order again
 pub in_order : {A : Type 0} (xs : List A) → reverse (onto xs []) ≡ xs
@@ -53,22 +57,27 @@ in_order xs = ap reverse (onto_reversed xs [] ∙ append-nil (reverse xs)) ∙ r
 abbrev pub DeclarationIn : TypeSpec → Text → Declaration → Type 0
 DeclarationIn t ts d = Is declaration_text well_declaration (type_text t ++ ts) d
 
-colons_sound : (t : TypeSpec) (found : List Attribute) (ts rest more : Text) (d : Declaration) → well_type t ≡ true → Run [] found ts rest →
-    rest ≡ punctuated mark.DoubleColon more → option_map (declaration t (reverse found) true) (entities_of more) ≡ Some d → DeclarationIn t ts d
+colons_sound : (t : TypeSpec) (found : List Attribute) (ts rest more : Text) (d : Declaration) → well_type t ≡ true →
+    Run [] found ts rest →
+    rest ≡ punctuated mark.DoubleColon more → option_map (declaration t (reverse found) true) (entities_of more) ≡ Some d →
+        DeclarationIn t ts d
 colons_sound t found ts rest more d w run is h = mapped (declaration t (reverse found) true) (entities_of more) d h (λ es he de.
     let s = entities_sound more es he in
     let ws = both (some es) (well_entities es) s.kept in
     let order = ap reverse run.newest ∙ in_order run.front in
     subst (DeclarationIn t ts) (ap (λ attributes. declaration t attributes true es) (sym order) ∙ de) record {
       spelled = ap (λ u. type_text t ++ u)
-          (ap (λ u. behind_commas (map attribute_text run.front) ++ u) (ap (punctuated mark.DoubleColon) s.spelled ∙ sym is) ∙ run.spelled);
+          (ap (λ u. behind_commas (map attribute_text run.front) ++ u) (ap (punctuated mark.DoubleColon) s.spelled ∙ sym is)
+              ∙ run.spelled);
       kept = joined (well_type t) (all (map well_attribute run.front) && (some es && (well_entities es && true))) w
           (joined (all (map well_attribute run.front)) (some es && (well_entities es && true)) run.kept
           (joined (some es) (well_entities es && true) ws.0 (joined (well_entities es) true ws.1 refl)));
     })
 
-bare_sound : (t : TypeSpec) (es : List Entity) (d : Declaration) → bare t es ≡ Some d → (declaration t [] false es ≡ d) × (no_initials es ≡ true)
-bare_sound t es d h = by_test (λ b. (if b then Some (declaration t [] false es) else None) ≡ Some d → (declaration t [] false es ≡ d) × (b ≡ true)) (no_initials es)
+bare_sound : (t : TypeSpec) (es : List Entity) (d : Declaration) → bare t es ≡ Some d →
+    (declaration t [] false es ≡ d) × (no_initials es ≡ true)
+bare_sound t es d h = by_test (λ b. (if b then Some (declaration t [] false es) else None) ≡ Some d →
+    (declaration t [] false es ≡ d) × (b ≡ true)) (no_initials es)
     (λ yes h. (cc, refl)) (λ no h. absurd (cc)) h
 
 no_colons_sound : (t : TypeSpec) (ts rest : Text) (d : Declaration) → well_type t ≡ true → Run [] [] ts rest →
@@ -79,14 +88,17 @@ no_colons_sound t ts rest d w run h = chained (bare t) (entities_of rest) d h (�
     let b = bare_sound t es d hb in
     let none : [] ≡ run.front = ap reverse run.newest ∙ in_order run.front in
     subst (DeclarationIn t ts) b.0 record {
-      spelled = ap (λ u. type_text t ++ u) (s.spelled ∙ ap (λ attributes. behind_commas (map attribute_text attributes) ++ rest) none ∙ run.spelled);
+      spelled = ap (λ u. type_text t ++ u) (s.spelled
+          ∙ ap (λ attributes. behind_commas (map attribute_text attributes) ++ rest) none ∙ run.spelled);
       kept = joined (well_type t) (some es && (well_entities es && no_initials es)) w
           (joined (some es) (well_entities es && no_initials es) ws.0 (joined (well_entities es) (no_initials es) ws.1 b.1));
     })
 
-declared_sound : (o : Option Text) (t : TypeSpec) (found : List Attribute) (ts rest : Text) (d : Declaration) → well_type t ≡ true → Run [] found ts rest →
+declared_sound : (o : Option Text) (t : TypeSpec) (found : List Attribute) (ts rest : Text) (d : Declaration) →
+    well_type t ≡ true → Run [] found ts rest →
     behind mark.DoubleColon rest ≡ o → declared_by o t found rest ≡ Some d → DeclarationIn t ts d
-declared_sound (Some more) t found ts rest d w run is h = colons_sound t found ts rest more d w run (behind_sound mark.DoubleColon rest more is) h
+declared_sound (Some more) t found ts rest d w run is h = colons_sound t found ts rest more d w run
+    (behind_sound mark.DoubleColon rest more is) h
 declared_sound None t [] ts rest d w run is h = no_colons_sound t ts rest d w run h
 declared_sound None t (a ∷ found) ts rest d w run is h = absurd (cc)
 
@@ -100,8 +112,10 @@ declaration_sound t ts d w h =
 abbrev pub behind_declared : Declaration → Text
 behind_declared d = behind_commas (map attribute_text d.attributes) ++ (colons_text d.colons ++ entities_text d.entities)
 
-again_colons : (t : TypeSpec) (attributes : List Attribute) (es : List Entity) → all (map well_attribute attributes) ≡ true → some es ≡ true → well_entities es ≡ true →
-    declaration_of t (behind_commas (map attribute_text attributes) ++ punctuated mark.DoubleColon (entities_text es)) ≡ Some (declaration t attributes true es)
+again_colons : (t : TypeSpec) (attributes : List Attribute) (es : List Entity) → all (map well_attribute attributes) ≡ true →
+    some es ≡ true → well_entities es ≡ true →
+    declaration_of t (behind_commas (map attribute_text attributes) ++ punctuated mark.DoubleColon (entities_text es)) ≡
+        Some (declaration t attributes true es)
 again_colons t attributes es wa h we =
     ap (declared t) (attributes_again attributes [] (punctuated mark.DoubleColon (entities_text es)) wa refl)
     ∙ ap (option_map (declaration t (reverse (onto attributes [])) true)) (entities_again es h we)
@@ -115,7 +129,8 @@ again_bare t (a ∷ es) h we hi =
     ∙ ap (option_and_then (bare t)) (entities_again (a ∷ es) h we)
     ∙ ap (λ b. if b then Some (declaration t [] false (a ∷ es)) else None) hi
 
-again_by_colons : (t : TypeSpec) (attributes : List Attribute) (colons : Bool) (es : List Entity) → all (map well_attribute attributes) ≡ true → some es ≡ true →
+again_by_colons : (t : TypeSpec) (attributes : List Attribute) (colons : Bool) (es : List Entity) →
+    all (map well_attribute attributes) ≡ true → some es ≡ true →
     well_entities es ≡ true → (colons || (not (some attributes) && no_initials es)) ≡ true →
     declaration_of t (behind_declared (declaration t attributes colons es)) ≡ Some (declaration t attributes colons es)
 again_by_colons t attributes true es wa h we hc = again_colons t attributes es wa h we

@@ -1,5 +1,6 @@
 -- Statements that begin procedures: what is read is spelled as the terminals, and what is spelled is read.
-use Rattle.std.proofs.Common.{◌≡◌, ℕ, Bool, true, false, ◌&&◌, ◌||◌, ◌==◌, not, reverse, List, [], ◌∷◌, ◌++◌, map, Option, Some, None, sym, ◌∙◌, ap, subst, refl, append_assoc, append-nil, codes}
+use Rattle.std.proofs.Common.{◌≡◌, ℕ, Bool, true, false, ◌&&◌, ◌||◌, ◌==◌, not, reverse, List, [], ◌∷◌, ◌++◌, map, Option, Some,
+    None, sym, ◌∙◌, ap, subst, refl, append_assoc, append-nil, codes}
 use Rattle.std.specs.Prelude.{option_map, option_and_then, if◌then◌else◌}
 use Rattle.f95_tree.specs.declared.declaration.Attribute.{Attribute}
 use Rattle.f95_tree.specs.declared.declaration.Declaration.{Declaration}
@@ -25,8 +26,10 @@ use Rattle.f95_tree.specs.declared.terminal.PrefixWord.TheVariants as prefix_nam
 use Rattle.f95_tree.specs.declared.terminal.Punctuation.TheVariants as mark
 use Rattle.f95_tree.specs.Spelling.{Text, punctuated, commas, in_brackets}
 use Rattle.f95_tree.specs.Grades.{all}
-use Rattle.f95_tree.specs.Forms.{Word, named, names, type_text, declaration_text, unit_word, prefix_text, prefixes_text, maybe_dummies, result_text, heading_text, spell_form}
-use Rattle.f95_tree.specs.WellFormed.{well_type, well_declaration, prefix_kind, is_among, distinct, well_prefix, well_heading, well_procedure, well_form}
+use Rattle.f95_tree.specs.Forms.{Word, named, names, type_text, declaration_text, unit_word, prefix_text, prefixes_text,
+    maybe_dummies, result_text, heading_text, spell_form}
+use Rattle.f95_tree.specs.WellFormed.{well_type, well_declaration, prefix_kind, is_among, distinct, well_prefix, well_heading,
+    well_procedure, well_form}
 use Rattle.f95_expressions.specs.declared.pending.Field.{Field}
 use Rattle.f95_expressions.specs.Machine.{bracket}
 use Rattle.f95_expressions.proofs.Lists.{both, joined, by_test, onto, onto_append}
@@ -39,8 +42,11 @@ use Rattle.f95_parts.proofs.ListLaws.{Is, within_list_sound, within_list_again, 
 use Rattle.f95_parts.proofs.Instances.{always, all_names}
 use Rattle.f95_parts.proofs.Instances as instance
 use Rattle.f95_statements.specs.Actions.{whole_bracket}
-use Rattle.f95_statements.specs.Declarations.{type_of, declaration, declaration_of, names_in, dummies_of, subroutine_of, result_name, result_of, function_in, function_of, heading_by, as_prefix, or_more, prefixes_of, procedure, kept, headed_procedure, procedure_behind, typed_procedure, procedure_keyed, procedure_from, procedure_of, is_keyed, typed_form}
-use Rattle.f95_statements.proofs.TypeLaws.{Leads, begins_length, word_of, behind_type, type_terminal, type_spelled, type_sound, type_again}
+use Rattle.f95_statements.specs.Declarations.{type_of, declaration, declaration_of, names_in, dummies_of, subroutine_of,
+    result_name, result_of, function_in, function_of, heading_by, as_prefix, or_more, prefixes_of, procedure, kept,
+    headed_procedure, procedure_behind, typed_procedure, procedure_keyed, procedure_from, procedure_of, is_keyed, typed_form}
+use Rattle.f95_statements.proofs.TypeLaws.{Leads, begins_length, word_of, behind_type, type_terminal, type_spelled, type_sound,
+    type_again}
 use Rattle.f95_statements.proofs.DeclarationLaws.{in_order, behind_declared, declared_type, declaration_sound, declaration_again}
 
 -- ---- dummies
@@ -51,13 +57,16 @@ names_sound inside rest fs ns hf hn = (within_list_sound instance.names inside r
 
 -- names in brackets are read before any rest
 names_again : {A : Type 0} (make : List Word × Text → Option A) (ns : List Word) (rest : Text) →
-    option_and_then (λ (found : List Field × Text). option_and_then (λ ns. make (ns, found.1)) (names_in found.0)) (bracket (names ns ++ punctuated mark.Close rest)) ≡ make (ns, rest)
+    option_and_then (λ (found : List Field × Text).
+        option_and_then (λ ns. make (ns, found.1)) (names_in found.0)) (bracket (names ns ++ punctuated mark.Close rest)) ≡
+        make (ns, rest)
 names_again make ns rest =
     ap (option_and_then (λ (found : List Field × Text). option_and_then (λ ns. make (ns, found.1)) (names_in found.0)))
       (within_list_again instance.names ns rest (all_names ns))
     ∙ ap (option_and_then (λ (ns : List Word). make (ns, rest))) (collected_inside instance.names ns (all_names ns))
 
-whole_names_sound : (ts : Text) (ns : List Word) → option_and_then names_in (whole_bracket ts) ≡ Some ns → in_brackets (names ns) ≡ ts
+whole_names_sound : (ts : Text) (ns : List Word) → option_and_then names_in (whole_bracket ts) ≡ Some ns →
+    in_brackets (names ns) ≡ ts
 whole_names_sound ts ns h = chained names_in (whole_bracket ts) ns h (λ fs hfs hns.
     chained (λ inside. option_and_then at_end (bracket inside)) (behind mark.Open ts) fs hfs (λ inside hi hb.
     chained at_end (bracket inside) fs hb (λ found hf he.
@@ -67,9 +76,11 @@ whole_names_sound ts ns h = chained names_in (whole_bracket ts) ns h (λ fs hfs 
 
 dummies_sound : (ts : Text) (d : Option (List Word)) → dummies_of ts ≡ Some d → maybe_dummies d ≡ ts
 dummies_sound ts d h =
-    by_test (λ b. (if b then Some None else option_map Some (option_and_then names_in (whole_bracket ts))) ≡ Some d → maybe_dummies d ≡ ts) (is_nil ts)
+    by_test (λ b. (if b then Some None else option_map Some (option_and_then names_in (whole_bracket ts))) ≡ Some d →
+        maybe_dummies d ≡ ts) (is_nil ts)
     (λ e h. let q : None ≡ d = cc in sym (ap maybe_dummies q) ∙ sym (nil ts e))
-    (λ _ h. mapped Some (option_and_then names_in (whole_bracket ts)) d h (λ ns hn is. sym (ap maybe_dummies is) ∙ whole_names_sound ts ns hn)) h
+    (λ _ h. mapped Some (option_and_then names_in (whole_bracket ts)) d h (λ ns hn is. sym (ap maybe_dummies is)
+        ∙ whole_names_sound ts ns hn)) h
 
 dummies_again : (d : Option (List Word)) → dummies_of (maybe_dummies d) ≡ Some d
 dummies_again None = refl
@@ -82,18 +93,21 @@ dummies_again (Some ns) =
 
 result_name_sound : (ts : Text) (n : Word) → result_name ts ≡ Some n → result_text (Some n) ≡ ts
 result_name_sound ts n h =
-    chained (λ inside. option_and_then (λ p. option_and_then (λ rest. nothing_more p.0 rest) (behind mark.Close p.1)) (behind_name inside))
+    chained (λ inside. option_and_then (λ p.
+        option_and_then (λ rest. nothing_more p.0 rest) (behind mark.Close p.1)) (behind_name inside))
       (option_and_then (behind mark.Open) (behind_word (codes "result") ts)) n h (λ inside hi h2.
     chained (behind mark.Open) (behind_word (codes "result") ts) inside hi (λ more hm ho.
     chained (λ p. option_and_then (λ rest. nothing_more p.0 rest) (behind mark.Close p.1)) (behind_name inside) n h2 (λ p hp h3.
     chained (λ rest. nothing_more p.0 rest) (behind mark.Close p.1) n h3 (λ rest hr h4.
     let m = more_sound p.0 n rest h4 in
-    sym (word_sound (codes "result") ts more hm ∙ ap (λ t. terminal.Name (codes "result") ∷ t) (behind_sound mark.Open more inside ho
+    sym (word_sound (codes "result") ts more hm
+        ∙ ap (λ t. terminal.Name (codes "result") ∷ t) (behind_sound mark.Open more inside ho
       ∙ ap (punctuated mark.Open) (name_sound inside p hp ∙ ap (λ n. terminal.Name n ∷ p.1) m.0
       ∙ ap (λ t. terminal.Name n ∷ t) (behind_sound mark.Close p.1 rest hr ∙ ap (punctuated mark.Close) m.1))))))))
 
 result_sound : (ts : Text) (o : Option Word) → result_of ts ≡ Some o → result_text o ≡ ts
-result_sound ts o h = by_test (λ b. (if b then Some None else option_map Some (result_name ts)) ≡ Some o → result_text o ≡ ts) (is_nil ts)
+result_sound ts o h = by_test (λ b. (if b then Some None else option_map Some (result_name ts)) ≡ Some o →
+    result_text o ≡ ts) (is_nil ts)
     (λ e h. let q : None ≡ o = cc in sym (ap result_text q) ∙ sym (nil ts e))
     (λ _ h. mapped Some (result_name ts) o h (λ n hn is. sym (ap result_text is) ∙ result_name_sound ts n hn)) h
 
@@ -103,13 +117,16 @@ result_again (Some n) = refl
 
 -- ---- headings
 
-function_sound : (p : Word × Text) (h : Heading) → function_of p ≡ Some h → heading_text h ≡ unit_word unit.Function ∷ terminal.Name p.0 ∷ p.1
-function_sound p h hs = chained (λ inside. option_and_then (function_in p.0) (bracket inside)) (behind mark.Open p.1) h hs (λ inside hi h2.
+function_sound : (p : Word × Text) (h : Heading) → function_of p ≡ Some h →
+    heading_text h ≡ unit_word unit.Function ∷ terminal.Name p.0 ∷ p.1
+function_sound p h hs = chained (λ inside.
+    option_and_then (function_in p.0) (bracket inside)) (behind mark.Open p.1) h hs (λ inside hi h2.
     chained (function_in p.0) (bracket inside) h h2 (λ found hf h3.
     chained (λ dummies. option_map (heading.Function p.0 dummies) (result_of found.1)) (names_in found.0) h h3 (λ ns hns h4.
     mapped (heading.Function p.0 ns) (result_of found.1) h h4 (λ o ho is.
     sym (ap heading_text is)
-    ∙ ap (λ t. unit_word unit.Function ∷ terminal.Name p.0 ∷ punctuated mark.Open t) (append_assoc (names ns) (punctuated mark.Close []) (result_text o)
+    ∙ ap (λ t. unit_word unit.Function ∷ terminal.Name p.0 ∷ punctuated mark.Open t)
+        (append_assoc (names ns) (punctuated mark.Close []) (result_text o)
       ∙ ap (λ t. names ns ++ punctuated mark.Close t) (result_sound found.1 o ho) ∙ names_sound inside found.1 found.0 ns hf hns)
     ∙ ap (λ t. unit_word unit.Function ∷ terminal.Name p.0 ∷ t) (sym (behind_sound mark.Open p.1 inside hi))))))
 
@@ -142,9 +159,12 @@ from_heading done (heading.Function n ns o) = refl
 
 -- a prefix that is a word
 as_prefix_sound : (t : Terminal) (p : Prefix) → as_prefix t ≡ Some p → (prefix_text p ≡ t ∷ []) × (well_prefix p ≡ true)
-as_prefix_sound (terminal.Keyword (keyword.Prefix prefix_name.Recursive)) p h = let q : prefix.Recursive ≡ p = cc in (sym (ap prefix_text q), sym (ap well_prefix q))
-as_prefix_sound (terminal.Keyword (keyword.Prefix prefix_name.Pure)) p h = let q : prefix.Pure ≡ p = cc in (sym (ap prefix_text q), sym (ap well_prefix q))
-as_prefix_sound (terminal.Keyword (keyword.Prefix prefix_name.Elemental)) p h = let q : prefix.Elemental ≡ p = cc in (sym (ap prefix_text q), sym (ap well_prefix q))
+as_prefix_sound (terminal.Keyword (keyword.Prefix prefix_name.Recursive)) p h = let q : prefix.Recursive ≡ p = cc in
+    (sym (ap prefix_text q), sym (ap well_prefix q))
+as_prefix_sound (terminal.Keyword (keyword.Prefix prefix_name.Pure)) p h = let q : prefix.Pure ≡ p = cc in
+    (sym (ap prefix_text q), sym (ap well_prefix q))
+as_prefix_sound (terminal.Keyword (keyword.Prefix prefix_name.Elemental)) p h = let q : prefix.Elemental ≡ p = cc in
+    (sym (ap prefix_text q), sym (ap well_prefix q))
 as_prefix_sound (terminal.Keyword keyword.Case) p h = absurd (cc)
 as_prefix_sound (terminal.Keyword k) p h = absurd (cc)
 as_prefix_sound terminal.Not p h = absurd (cc)
@@ -160,7 +180,8 @@ record Run (done found : List Prefix) (ts rest : Text) : Type 0 where
 abbrev RunTo : List Prefix → Text → List Prefix × Text → Type 0
 RunTo done ts r = Run done r.0 ts r.1
 
-run_next : (o : Option Prefix) (done : List Prefix) (t : Terminal) (ts : Text) → as_prefix t ≡ o → ((p : Prefix) → RunTo (p ∷ done) ts (prefixes_of (p ∷ done) ts)) →
+run_next : (o : Option Prefix) (done : List Prefix) (t : Terminal) (ts : Text) → as_prefix t ≡ o →
+    ((p : Prefix) → RunTo (p ∷ done) ts (prefixes_of (p ∷ done) ts)) →
     RunTo done (t ∷ ts) (or_more o (done, t ∷ ts) (λ p. prefixes_of (p ∷ done) ts))
 run_next None done t ts is more = record { front = []; newest = refl; spelled = refl; kept = refl }
 run_next (Some p) done t ts is more =
@@ -168,7 +189,8 @@ run_next (Some p) done t ts is more =
     let m = more p in record {
       front = p ∷ m.front;
       newest = m.newest;
-      spelled = append_assoc (prefix_text p) (prefixes_text m.front) (prefixes_of (p ∷ done) ts).1 ∙ ap (λ u. prefix_text p ++ u) m.spelled ∙ ap (λ u. u ++ ts) s.0;
+      spelled = append_assoc (prefix_text p) (prefixes_text m.front) (prefixes_of (p ∷ done) ts).1
+          ∙ ap (λ u. prefix_text p ++ u) m.spelled ∙ ap (λ u. u ++ ts) s.0;
       kept = joined (well_prefix p) (all (map well_prefix m.front)) s.1 m.kept;
     }
 
@@ -178,9 +200,11 @@ prefix_run done (t ∷ ts) = run_next (as_prefix t) done t ts refl (λ p. prefix
 
 prefixes_joined : (ps qs : List Prefix) → prefixes_text (ps ++ qs) ≡ prefixes_text ps ++ prefixes_text qs
 prefixes_joined [] qs = refl
-prefixes_joined (p ∷ ps) qs = ap (λ t. prefix_text p ++ t) (prefixes_joined ps qs) ∙ sym (append_assoc (prefix_text p) (prefixes_text ps) (prefixes_text qs))
+prefixes_joined (p ∷ ps) qs = ap (λ t. prefix_text p ++ t) (prefixes_joined ps qs)
+    ∙ sym (append_assoc (prefix_text p) (prefixes_text ps) (prefixes_text qs))
 
-all_joined : (ps qs : List Prefix) → all (map well_prefix ps) ≡ true → all (map well_prefix qs) ≡ true → all (map well_prefix (ps ++ qs)) ≡ true
+all_joined : (ps qs : List Prefix) → all (map well_prefix ps) ≡ true → all (map well_prefix qs) ≡ true →
+    all (map well_prefix (ps ++ qs)) ≡ true
 all_joined [] qs h g = g
 all_joined (p ∷ ps) qs h g =
     let ws = both (well_prefix p) (all (map well_prefix ps)) h in
@@ -202,7 +226,8 @@ kept_sound p q h = by_test (λ b. (if b then Some p else None) ≡ Some q → (p
     (λ yes h. (cc, refl)) (λ no h. absurd (cc)) h
 
 begun_sound : (ps : List Prefix) (w : UnitWord) (ts : Text) (q : Procedure) → all (map well_prefix ps) ≡ true →
-    option_and_then (λ h. kept (procedure (reverse (onto ps [])) h)) (heading_by w ts) ≡ Some q → ProcedureIn (prefixes_text ps ++ unit_word w ∷ ts) q
+    option_and_then (λ h. kept (procedure (reverse (onto ps [])) h)) (heading_by w ts) ≡ Some q →
+        ProcedureIn (prefixes_text ps ++ unit_word w ∷ ts) q
 begun_sound ps w ts q a h = chained (λ h. kept (procedure (reverse (onto ps [])) h)) (heading_by w ts) q h (λ begins hh hk.
     let k = kept_sound (procedure (reverse (onto ps [])) begins) q hk in
     subst (ProcedureIn (prefixes_text ps ++ unit_word w ∷ ts)) (ap (λ ps. procedure ps begins) (sym (in_order ps)) ∙ k.0) record {
@@ -210,19 +235,22 @@ begun_sound ps w ts q a h = chained (λ h. kept (procedure (reverse (onto ps [])
       kept = joined (all (map well_prefix ps)) (keeps ps begins) a (ap (λ ps. keeps ps begins) (sym (in_order ps)) ∙ k.1);
     })
 
-headed_sound : (ps : List Prefix) (p : Keyword × Text) (q : Procedure) → all (map well_prefix ps) ≡ true → headed_procedure (onto ps []) p ≡ Some q →
+headed_sound : (ps : List Prefix) (p : Keyword × Text) (q : Procedure) → all (map well_prefix ps) ≡ true →
+    headed_procedure (onto ps []) p ≡ Some q →
     ProcedureIn (prefixes_text ps ++ terminal.Keyword p.0 ∷ p.1) q
 headed_sound ps (keyword.Unit w, ts) q a h = begun_sound ps w ts q a h
 headed_sound ps (keyword.Case, ts) q a h = absurd (cc)
 headed_sound ps (k, ts) q a h = absurd (cc)
 
-behind_prefixes : (ps : List Prefix) (ts : Text) (q : Procedure) → all (map well_prefix ps) ≡ true → procedure_behind (onto ps [], ts) ≡ Some q →
+behind_prefixes : (ps : List Prefix) (ts : Text) (q : Procedure) → all (map well_prefix ps) ≡ true →
+    procedure_behind (onto ps [], ts) ≡ Some q →
     ProcedureIn (prefixes_text ps ++ ts) q
 behind_prefixes ps ts q a h = chained (headed_procedure (onto ps [])) (behind_keyword ts) q h (λ p hp h2.
     subst (λ t. ProcedureIn (prefixes_text ps ++ t) q) (sym (keyword_sound ts p hp)) (headed_sound ps p q a h2))
 
 -- a type as a prefix behind others
-pub typed_sound : (ps : List Prefix) (p : TypeSpec × Text) (q : Procedure) → all (map well_prefix ps) ≡ true → well_type p.0 ≡ true →
+pub typed_sound : (ps : List Prefix) (p : TypeSpec × Text) (q : Procedure) → all (map well_prefix ps) ≡ true →
+    well_type p.0 ≡ true →
     typed_procedure (onto ps []) p ≡ Some q → Is procedure_text well_procedure (prefixes_text ps ++ (type_text p.0 ++ p.1)) q
 typed_sound ps p q a w h =
     let here : Prefix = prefix.«Type» p.0 in
@@ -230,12 +258,16 @@ typed_sound ps p q a w h =
     let r = prefix_run (here ∷ onto ps []) p.1 in
     let front : List Prefix = here ∷ r.front in
     let newest = r.newest ∙ sym (onto_append ps front []) in
-    let text = ap (λ (t : Text). t ++ found.1) (prefixes_joined ps front) ∙ append_assoc (prefixes_text ps) (prefixes_text front) found.1
-        ∙ ap (λ (t : Text). prefixes_text ps ++ t) (append_assoc (type_text p.0) (prefixes_text r.front) found.1 ∙ ap (λ (t : Text). type_text p.0 ++ t) r.spelled) in
+    let text = ap (λ (t : Text). t ++ found.1) (prefixes_joined ps front)
+        ∙ append_assoc (prefixes_text ps) (prefixes_text front) found.1
+        ∙ ap (λ (t : Text). prefixes_text ps ++ t) (append_assoc (type_text p.0) (prefixes_text r.front) found.1
+            ∙ ap (λ (t : Text). type_text p.0 ++ t) r.spelled) in
     subst (λ t. ProcedureIn t q) text (behind_prefixes (ps ++ front) found.1 q
-      (all_joined ps front a (joined (well_type p.0) (all (map well_prefix r.front)) w r.kept)) (ap (λ d. procedure_behind (d, found.1)) (sym newest) ∙ h))
+      (all_joined ps front a (joined (well_type p.0) (all (map well_prefix r.front)) w r.kept))
+          (ap (λ d. procedure_behind (d, found.1)) (sym newest) ∙ h))
 
-keyed_sound : (ps : List Prefix) (p : Keyword × Text) (q : Procedure) → all (map well_prefix ps) ≡ true → procedure_keyed (onto ps []) p ≡ Some q →
+keyed_sound : (ps : List Prefix) (p : Keyword × Text) (q : Procedure) → all (map well_prefix ps) ≡ true →
+    procedure_keyed (onto ps []) p ≡ Some q →
     ProcedureIn (prefixes_text ps ++ terminal.Keyword p.0 ∷ p.1) q
 keyed_sound ps (keyword.«Type» w, ts) q a h = chained (typed_procedure (onto ps [])) (type_of w ts) q h (λ t ht h2.
     let s = type_sound w ts t ht in subst (λ u. ProcedureIn (prefixes_text ps ++ u) q) s.spelled (typed_sound ps t q a s.kept h2))
@@ -249,7 +281,8 @@ procedure_sound ts q h =
     let r = prefix_run [] ts in
     subst (λ t. ProcedureIn t q) r.spelled (chained (procedure_keyed (onto r.front [])) (behind_keyword found.1) q
       (ap (λ d. procedure_from (d, found.1)) (sym r.newest) ∙ h) (λ p hp h2.
-      subst (λ t. ProcedureIn (prefixes_text r.front ++ t) q) (sym (keyword_sound found.1 p hp)) (keyed_sound r.front p q r.kept h2)))
+      subst (λ t. ProcedureIn (prefixes_text r.front ++ t) q) (sym (keyword_sound found.1 p hp))
+          (keyed_sound r.front p q r.kept h2)))
 
 -- ---- what is spelled
 
@@ -279,7 +312,8 @@ no_length (prefix.Elemental ∷ ps) h u = refl
 no_length (prefix.«Type» t ∷ ps) h u = absurd (cc)
 
 -- but a keyword stands there
-keyword_first : (ps : List Prefix) (h : Heading) → untyped ps → is_keyed (behind_keyword (prefixes_text ps ++ heading_text h)) ≡ true
+keyword_first : (ps : List Prefix) (h : Heading) → untyped ps →
+    is_keyed (behind_keyword (prefixes_text ps ++ heading_text h)) ≡ true
 keyword_first [] (heading.Subroutine n d) u = refl
 keyword_first [] (heading.Function n ns o) u = refl
 keyword_first (prefix.Recursive ∷ ps) h u = refl
@@ -293,8 +327,10 @@ not_true false h = refl
 
 -- a type is parted from the prefixes behind it
 type_first : (t : TypeSpec) (ps : List Prefix) (h : Heading) →
-    prefixes_text (prefix.«Type» t ∷ ps) ++ heading_text h ≡ type_terminal (word_of t) ∷ (behind_type t ++ (prefixes_text ps ++ heading_text h))
-type_first t ps h = append_assoc (type_text t) (prefixes_text ps) (heading_text h) ∙ ap (λ u. u ++ (prefixes_text ps ++ heading_text h)) (type_spelled t)
+    prefixes_text (prefix.«Type» t ∷ ps) ++ heading_text h ≡
+        type_terminal (word_of t) ∷ (behind_type t ++ (prefixes_text ps ++ heading_text h))
+type_first t ps h = append_assoc (type_text t) (prefixes_text ps) (heading_text h)
+    ∙ ap (λ u. u ++ (prefixes_text ps ++ heading_text h)) (type_spelled t)
 
 from_again : (done ps : List Prefix) (h : Heading) → all (map well_prefix ps) ≡ true → distinct (map prefix_kind ps) ≡ true →
     procedure_from (prefixes_of done (prefixes_text ps ++ heading_text h)) ≡ kept (procedure (reverse (onto ps done)) h)
@@ -306,7 +342,8 @@ from_again done (prefix.Pure ∷ ps) h a d =
 from_again done (prefix.Elemental ∷ ps) h a d =
     from_again (prefix.Elemental ∷ done) ps h a (both (not (is_among (map prefix_kind ps) 2)) (distinct (map prefix_kind ps)) d).1
 from_again done (prefix.«Type» t ∷ ps) h a d =
-    let u = not_true (is_among (map prefix_kind ps) 3) (both (not (is_among (map prefix_kind ps) 3)) (distinct (map prefix_kind ps)) d).0 in
+    let u = not_true (is_among (map prefix_kind ps) 3)
+        (both (not (is_among (map prefix_kind ps) 3)) (distinct (map prefix_kind ps)) d).0 in
     ap (λ t. procedure_from (prefixes_of done t)) (type_first t ps h)
     ∙ ap (option_and_then (typed_procedure done))
       (type_again t (prefixes_text ps ++ heading_text h) (both (well_type t) (all (map well_prefix ps)) a).0 (no_length ps h u))
@@ -318,7 +355,8 @@ kept_again p h = ap (λ b. if b then Some p else None) h
 pub procedure_again : (q : Procedure) → well_procedure q ≡ true → procedure_of (procedure_text q) ≡ Some q
 procedure_again q w =
     let ws = both (all (map well_prefix q.prefixes)) (keeps q.prefixes q.heading) w in
-    from_again [] q.prefixes q.heading ws.0 (both (distinct (map prefix_kind q.prefixes)) (well_heading (map prefix_kind q.prefixes) q.heading) ws.1).0
+    from_again [] q.prefixes q.heading ws.0
+        (both (distinct (map prefix_kind q.prefixes)) (well_heading (map prefix_kind q.prefixes) q.heading) ws.1).0
     ∙ ap (λ ps. kept (procedure ps q.heading)) (in_order q.prefixes) ∙ kept_again q ws.1
 
 -- ---- what begins with the word of a type
@@ -329,23 +367,29 @@ FormIn ts f = Is spell_form well_form ts f
 typed_form_sound : (p : TypeSpec × Text) (f : Form) → well_type p.0 ≡ true → typed_form p ≡ Some f → FormIn (type_text p.0 ++ p.1) f
 typed_form_sound p f w h =
     by_test (λ b. (if b then option_map (λ q. of.Unit (unit_of.Procedure q)) (typed_procedure [] p)
-      else option_map of.Declaration (declaration_of p.0 p.1)) ≡ Some f → FormIn (type_text p.0 ++ p.1) f) (is_keyed (behind_keyword p.1))
+      else option_map of.Declaration (declaration_of p.0 p.1)) ≡ Some f →
+          FormIn (type_text p.0 ++ p.1) f) (is_keyed (behind_keyword p.1))
     (λ _ h. mapped (λ q. of.Unit (unit_of.Procedure q)) (typed_procedure [] p) f h (λ q hq is.
-      let s = typed_sound [] p q refl w hq in subst (FormIn (type_text p.0 ++ p.1)) is record { spelled = s.spelled; kept = s.kept }))
+      let s = typed_sound [] p q refl w hq in
+          subst (FormIn (type_text p.0 ++ p.1)) is record { spelled = s.spelled; kept = s.kept }))
     (λ _ h. mapped of.Declaration (declaration_of p.0 p.1) f h (λ d hd is.
-      let s = declaration_sound p.0 p.1 d w hd in subst (FormIn (type_text p.0 ++ p.1)) is record { spelled = s.spelled; kept = s.kept })) h
+      let s = declaration_sound p.0 p.1 d w hd in
+          subst (FormIn (type_text p.0 ++ p.1)) is record { spelled = s.spelled; kept = s.kept })) h
 
 -- what is read behind the word of a type: a declaration, or a procedure whose first prefix is a type
-pub typed_word_sound : (w : TypeWord) (ts : Text) (f : Form) → option_and_then typed_form (type_of w ts) ≡ Some f → Is spell_form well_form (type_terminal w ∷ ts) f
+pub typed_word_sound : (w : TypeWord) (ts : Text) (f : Form) → option_and_then typed_form (type_of w ts) ≡ Some f →
+    Is spell_form well_form (type_terminal w ∷ ts) f
 typed_word_sound w ts f h = chained typed_form (type_of w ts) f h (λ p hp hf.
     let s = type_sound w ts p hp in subst (λ t. FormIn t f) s.spelled (typed_form_sound p f s.kept hf))
 
 -- a declaration begins with the word of its type
-pub declaration_first : (d : Declaration) → declaration_text d ≡ type_terminal (word_of d.of) ∷ (behind_type d.of ++ behind_declared d)
+pub declaration_first : (d : Declaration) →
+    declaration_text d ≡ type_terminal (word_of d.of) ∷ (behind_type d.of ++ behind_declared d)
 declaration_first d = ap (λ t. t ++ behind_declared d) (type_spelled d.of)
 
 -- neither a length nor a keyword stands behind the type of a declaration
-no_length_behind : (t : TypeSpec) (attributes : List Attribute) (colons : Bool) (es : List Entity) → begins_length (behind_declared (declaration t attributes colons es)) ≡ false
+no_length_behind : (t : TypeSpec) (attributes : List Attribute) (colons : Bool) (es : List Entity) →
+    begins_length (behind_declared (declaration t attributes colons es)) ≡ false
 no_length_behind t (a ∷ attributes) colons es = refl
 no_length_behind t [] true es = refl
 no_length_behind t [] false [] = refl
@@ -359,9 +403,11 @@ no_keyword_behind t [] false [] = refl
 no_keyword_behind t [] false (a ∷ es) = refl
 
 typed_by_keyword : (p : TypeSpec × Text) (b : Bool) → is_keyed (behind_keyword p.1) ≡ b →
-    typed_form p ≡ (if b then option_map (λ q. of.Unit (unit_of.Procedure q)) (typed_procedure [] p) else option_map of.Declaration (declaration_of p.0 p.1))
+    typed_form p ≡ (if b then option_map (λ q.
+        of.Unit (unit_of.Procedure q)) (typed_procedure [] p) else option_map of.Declaration (declaration_of p.0 p.1))
 typed_by_keyword p b h =
-    ap (λ b. if b then option_map (λ q. of.Unit (unit_of.Procedure q)) (typed_procedure [] p) else option_map of.Declaration (declaration_of p.0 p.1)) h
+    ap (λ b. if b then option_map (λ q.
+        of.Unit (unit_of.Procedure q)) (typed_procedure [] p) else option_map of.Declaration (declaration_of p.0 p.1)) h
 
 pub declaration_typed : (d : Declaration) → well_declaration d ≡ true →
     option_and_then typed_form (type_of (word_of d.of) (behind_type d.of ++ behind_declared d)) ≡ Some (of.Declaration d)
@@ -384,7 +430,8 @@ pub procedure_first : (t : TypeSpec) (ps : List Prefix) (h : Heading) →
 procedure_first t ps h = type_first t ps h
 
 pub procedure_typed : (t : TypeSpec) (ps : List Prefix) (h : Heading) → well_procedure (typed_function t ps h) ≡ true →
-    option_and_then typed_form (type_of (word_of t) (behind_type t ++ behind_prefix ps h)) ≡ Some (of.Unit (unit_of.Procedure (typed_function t ps h)))
+    option_and_then typed_form (type_of (word_of t) (behind_type t ++ behind_prefix ps h)) ≡
+        Some (of.Unit (unit_of.Procedure (typed_function t ps h)))
 procedure_typed t ps h w =
     let all_of = prefix.«Type» t ∷ ps in
     let kinds = map prefix_kind ps in
@@ -395,24 +442,30 @@ procedure_typed t ps h w =
     ap (option_and_then typed_form) (type_again t (behind_prefix ps h) wt.0 (no_length ps h u))
     ∙ typed_by_keyword (t, behind_prefix ps h) true (keyword_first ps h u)
     ∙ ap (option_map (λ q. of.Unit (unit_of.Procedure q)))
-      (untyped_again (prefix.«Type» t ∷ []) ps h u ∙ ap (λ ps. kept (procedure ps h)) (in_order all_of) ∙ kept_again (typed_function t ps h) ws.1)
+      (untyped_again (prefix.«Type» t ∷ []) ps h u ∙ ap (λ ps. kept (procedure ps h)) (in_order all_of)
+          ∙ kept_again (typed_function t ps h) ws.1)
 
 -- ---- by the word of a type and what stands behind it
 
-typed_at : (f : Form) (v w : TypeWord) (us ts : Text) → type_terminal v ∷ us ≡ type_terminal w ∷ ts → option_and_then typed_form (type_of v us) ≡ Some f →
+typed_at : (f : Form) (v w : TypeWord) (us ts : Text) → type_terminal v ∷ us ≡ type_terminal w ∷ ts →
+    option_and_then typed_form (type_of v us) ≡ Some f →
     option_and_then typed_form (type_of w ts) ≡ Some f
 typed_at f v w us ts e h =
     let words : v ≡ w = cc in
     let rests : us ≡ ts = cc in
-    sym (ap (λ w. option_and_then typed_form (type_of w ts)) words) ∙ sym (ap (λ t. option_and_then typed_form (type_of v t)) rests) ∙ h
+    sym (ap (λ w. option_and_then typed_form (type_of w ts)) words)
+        ∙ sym (ap (λ t. option_and_then typed_form (type_of v t)) rests) ∙ h
 
-pub declaration_word_again : (d : Declaration) (w : TypeWord) (ts : Text) → well_declaration d ≡ true → declaration_text d ≡ type_terminal w ∷ ts →
+pub declaration_word_again : (d : Declaration) (w : TypeWord) (ts : Text) → well_declaration d ≡ true →
+    declaration_text d ≡ type_terminal w ∷ ts →
     option_and_then typed_form (type_of w ts) ≡ Some (of.Declaration d)
 declaration_word_again d w ts well e =
-    typed_at (of.Declaration d) (word_of d.of) w (behind_type d.of ++ behind_declared d) ts (sym (declaration_first d) ∙ e) (declaration_typed d well)
+    typed_at (of.Declaration d) (word_of d.of) w (behind_type d.of ++ behind_declared d) ts (sym (declaration_first d)
+        ∙ e) (declaration_typed d well)
 
 word_again_by : (ps : List Prefix) (h : Heading) (w : TypeWord) (ts : Text) → well_procedure (procedure ps h) ≡ true →
-    procedure_text (procedure ps h) ≡ type_terminal w ∷ ts → option_and_then typed_form (type_of w ts) ≡ Some (of.Unit (unit_of.Procedure (procedure ps h)))
+    procedure_text (procedure ps h) ≡ type_terminal w ∷ ts →
+        option_and_then typed_form (type_of w ts) ≡ Some (of.Unit (unit_of.Procedure (procedure ps h)))
 word_again_by [] (heading.Subroutine n d) w ts well e = absurd (cc)
 word_again_by [] (heading.Function n ns o) w ts well e = absurd (cc)
 word_again_by (prefix.Recursive ∷ ps) h w ts well e = absurd (cc)
@@ -422,6 +475,7 @@ word_again_by (prefix.«Type» t ∷ ps) h w ts well e =
     typed_at (of.Unit (unit_of.Procedure (typed_function t ps h))) (word_of t) w (behind_type t ++ behind_prefix ps h) ts
       (sym (procedure_first t ps h) ∙ e) (procedure_typed t ps h well)
 
-pub procedure_word_again : (q : Procedure) (w : TypeWord) (ts : Text) → well_procedure q ≡ true → procedure_text q ≡ type_terminal w ∷ ts →
+pub procedure_word_again : (q : Procedure) (w : TypeWord) (ts : Text) → well_procedure q ≡ true →
+    procedure_text q ≡ type_terminal w ∷ ts →
     option_and_then typed_form (type_of w ts) ≡ Some (of.Unit (unit_of.Procedure q))
 procedure_word_again q w ts well e = word_again_by q.prefixes q.heading w ts well e
