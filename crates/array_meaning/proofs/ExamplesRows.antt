@@ -1,7 +1,13 @@
 -- Small sources that show what acts when. Each row holds by computation.
-use Rattle.std.proofs.Common.{refl}
+use Rattle.std.proofs.Common.{◌≡◌, refl, ap, subst, true}
+use Rattle.std.specs.Prelude.{List, [], ◌∷◌, Result, Ok, Err}
+use Rattle.a95_base.specs.Lists.{Every}
+use Rattle.array_meaning.specs.State.{Halt}
+use Rattle.array_meaning.specs.Sections.{Section}
+use Rattle.array_meaning.specs.Reads.{is_spared}
+use Rattle.array_meaning.specs.Build.{num}
 use Rattle.array_meaning.proofs.Running.{running}
-use Rattle.array_meaning.specs.Examples.{shifted_section, sum_without_mask, pending_places_alone, forall_before_any_store, turns_run_out, shifts, shape_before_many_one, many_one_before_elements, scalar_mask_by_itself, order_of_three, ShiftedSection, SumWithoutMask, PendingPlacesAlone, ForallBeforeAnyStore, TurnsRunOut, Shifts, ShapeBeforeManyOne, ManyOneBeforeElements, ScalarMaskByItself, OrderOfThree}
+use Rattle.array_meaning.specs.Examples.{shifted_section, sum_without_mask, pending_places_alone, forall_before_any_store, turns_run_out, shifts, shape_before_many_one, many_one_before_elements, scalar_mask_by_itself, order_of_three, first_and_size, five_elements, ShiftedSection, SumWithoutMask, PendingPlacesAlone, ForallBeforeAnyStore, TurnsRunOut, Shifts, ShapeBeforeManyOne, ManyOneBeforeElements, ScalarMaskByItself, OrderOfThree, ReadsElsewhere}
 
 pub shifted_section_row : ShiftedSection
 unfolding running shifted_section
@@ -42,3 +48,18 @@ scalar_mask_by_itself_row = record { is = refl }
 pub order_of_three_row : OrderOfThree
 unfolding running order_of_three
 order_of_three_row = record { is = refl }
+
+value_or : Section → Result Section Halt → Section
+value_or d (Ok named) = named
+value_or d (Err halt) = d
+
+pub reads_elsewhere : ReadsElsewhere
+unfolding running value_or
+reads_elsewhere unit calls line turns = (
+  (
+    ((tt, tt), tt),
+    (λ left most named e. subst (λ (x : Section). Every (λ k. is_spared 0 ((1, num 9) ∷ []) x.variable k ≡ true) x.places)
+        (ap (value_or named) e) (refl, tt)),
+  ),
+  (((tt, tt, tt), tt), tt),
+)

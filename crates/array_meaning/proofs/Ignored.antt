@@ -9,7 +9,7 @@ use Rattle.f95_unit.specs.declared.operation.Inquiry.{Inquiry}
 use Rattle.f95_unit.specs.declared.operation.Inquiry.TheVariants as inquiry
 use Rattle.f95_unit.specs.declared.operation.Reduction.{Reduction}
 use Rattle.a95_base.specs.Lists.{Every}
-use Rattle.f95_unit.specs.Plain.{Expr, typed, Literal, Constant, Index, Named, Brackets, Unary, Binary, Constructor, Elementwise, Trim, Asked, Reduced, Rearranged, Called, Designator, at, Access, Whole, Subscripted, Subscripts, no_subscript, subscript, Subscript, One, Vector, Spans, Bound, Absent, Given, Part, AllOf, BytesOf, Items, no_item, value, loop, Arguments, no_argument, argument, Subject, Name, Of, call, Entity, Program}
+use Rattle.f95_unit.specs.Plain.{Expr, typed, Literal, Constant, Index, Named, Brackets, Unary, Binary, Constructor, Elementwise, Trim, Asked, Reduced, Rearranged, Called, Designator, at, Access, Whole, Subscripted, Subscripts, no_subscript, subscript, Subscript, One, Vector, SubscriptTriplet, Bound, Absent, Given, Part, AllOf, BytesOf, Items, no_item, value, loop, Arguments, no_argument, argument, Subject, Name, Of, call, Entity, Program}
 use Rattle.array_meaning.specs.Values.{Value}
 use Rattle.array_meaning.specs.State.{Dimension, Array, Variable, no_variable, State, Halt, Step, fault_at, unless, choose, given, allocated_array, turn_from, turn, variable, set_variable, store_all, inside}
 use Rattle.array_meaning.specs.Sections.{Picked, Section, placed, read_section}
@@ -39,10 +39,10 @@ designates_own unit calls line ix n access part =
 
 -- any two states
 abbrev anything : Preorder
-anything = record { relation = λ s t. Unit {0}; same = λ s. tt; join = λ a b c h g. tt; turns = λ s n. tt }
+anything = record { relation = λ s t. Unit {0}; same = λ s. tt; join = λ a b c h g. tt; turns = λ s n e. tt }
 
 -- an element tree has calls of the expression's procedures alone
-calls_of : (P : ℕ → Type 0) (unit : Program) (calls : Caller) (line : ℕ) (ix : List ℤ) (e : Expr) → Refers P e
+pub calls_of : (P : ℕ → Type 0) (unit : Program) (calls : Caller) (line : ℕ) (ix : List ℤ) (e : Expr) → Refers P e
     → Gives (CallsIn P) (prepare unit calls line ix e)
 calls_of P unit calls line ix e h = record {
   gives = (keeps_prepare anything P calls (λ p q l actuals s. tt) line unit ix e h).gives;
@@ -320,7 +320,7 @@ module _ (hidden : ℕ) (instead : Variable) where
       ignores_pick_one ix d (Vector e) h g = ignores_then (ignores_valued calls line (ignores_prepare ix e h g)
           (calls_in ix e g))
           (λ v. ignores_pure _)
-      ignores_pick_one ix d (Spans first last stride) h g = ignores_then (ignores_bound_or ix _ first h.0 g.0)
+      ignores_pick_one ix d (SubscriptTriplet first last stride) h g = ignores_then (ignores_bound_or ix _ first h.0 g.0)
           (λ f. ignores_then (ignores_bound_or ix _ last h.1 g.1)
           (λ l. ignores_then (ignores_bound_or ix _ stride h.2 g.2) (λ s. ignores_pure _)))
 

@@ -8,7 +8,7 @@ use Rattle.a95_base.specs.Steps.{pure, stop, behind, ◌>>=◌, ◌>>◌}
 use Rattle.f95_unit.specs.declared.operation.Inquiry.{Inquiry}
 use Rattle.f95_unit.specs.declared.operation.Inquiry.TheVariants as inquiry
 use Rattle.f95_unit.specs.declared.operation.Reduction.{Reduction}
-use Rattle.f95_unit.specs.Plain.{Expr, typed, Literal, Constant, Index, Named, Brackets, Unary, Binary, Constructor, Elementwise, Trim, Asked, Reduced, Rearranged, Called, Designator, at, Access, Whole, Subscripted, Subscripts, no_subscript, subscript, Subscript, One, Vector, Spans, Bound, Absent, Given, Part, AllOf, BytesOf, Items, no_item, value, loop, Arguments, no_argument, argument, Subject, Name, Of, call, Program}
+use Rattle.f95_unit.specs.Plain.{Expr, typed, Literal, Constant, Index, Named, Brackets, Unary, Binary, Constructor, Elementwise, Trim, Asked, Reduced, Rearranged, Called, Designator, at, Access, Whole, Subscripted, Subscripts, no_subscript, subscript, Subscript, One, Vector, SubscriptTriplet, Bound, Absent, Given, Part, AllOf, BytesOf, Items, no_item, value, loop, Arguments, no_argument, argument, Subject, Name, Of, call, Program}
 use Rattle.array_meaning.specs.Values.{Value}
 use Rattle.array_meaning.specs.State.{Dimension, Array, Variable, State, Halt, Step, fault_at, unless, choose, given, allocated_array, turn_from, turn, variable}
 use Rattle.array_meaning.specs.Sections.{Picked, Section, placed, read_section}
@@ -20,7 +20,7 @@ pub record Preorder : Type 1 where
   pub relation : State → State → Type 0
   pub same : (s : State) → relation s s
   pub join : (a b c : State) → relation a b → relation b c → relation a c
-  pub turns : (s : State) (n : ℕ) → relation s (record s { left = n })
+  pub turns : (s : State) (n : ℕ) → s.left ≡ suc n → relation s (record s { left = n })
 
 -- the state goes by the relation, and of a value that a step comes to something holds
 pub record Keeps (R : Preorder) {A : Type 0} (Q : A → Type 0) (m : Step A) : Type 0 where
@@ -129,14 +129,14 @@ module _ (R : Preorder) where
   unfolding variable pure
   keeps_variable n = record { goes = λ s. R.same s; gives = λ s b e. tt }
 
-  turn_goes : (n : ℕ) (s : State) → R.relation s (turn_from n s).after
+  turn_goes : (n : ℕ) (s : State) → s.left ≡ n → R.relation s (turn_from n s).after
   unfolding turn_from pure stop
-  turn_goes zero s = R.same s
-  turn_goes (suc n) s = R.turns s n
+  turn_goes zero s e = R.same s
+  turn_goes (suc n) s e = R.turns s n e
 
   pub keeps_turn : Keeps R Any turn
   unfolding turn
-  keeps_turn = record { goes = λ s. turn_goes s.left s; gives = λ s b e. tt }
+  keeps_turn = record { goes = λ s. turn_goes s.left s refl; gives = λ s b e. tt }
 
   -- a call, of which nothing more is asked
   pub keeps_call : {A : Type 0} {m : Step A} → Changes R.relation m → Keeps R Any m
@@ -307,7 +307,7 @@ module _ (R : Preorder) where
             (pick_one unit calls line ix d s)
         keeps_pick_one ix d (One e) h = keeps_then (keeps_number (keeps_valued (keeps_prepare ix e h))) (λ i p. kept _)
         keeps_pick_one ix d (Vector e) h = keeps_then (keeps_valued (keeps_prepare ix e h)) (λ v p. kept _)
-        keeps_pick_one ix d (Spans first last stride) h = keeps_then (keeps_bound_or ix _ first h.0)
+        keeps_pick_one ix d (SubscriptTriplet first last stride) h = keeps_then (keeps_bound_or ix _ first h.0)
             (λ f p. keeps_then (keeps_bound_or ix _ last h.1)
             (λ l p. keeps_then (keeps_bound_or ix _ stride h.2) (λ s p. kept _)))
 

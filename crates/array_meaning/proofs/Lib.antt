@@ -6,4 +6,6 @@ pub mod Wholeness
 pub mod ExamplesRows
 pub mod Ignored
 pub mod Kept
+pub mod SameReads
+pub mod SparedReads
 pub mod PureCalls

@@ -1,6 +1,7 @@
 -- A pure procedure reads and writes nothing, whatever it calls; a call of a pure function takes turns alone.
-use Rattle.std.proofs.Common.{◌≡◌, refl, ap, ◌∙◌, ℕ, ℤ, zero, suc, ◌+ℤ◌, Bool, true, false, List, [], ◌∷◌}
+use Rattle.std.proofs.Common.{◌≡◌, refl, ap, ◌∙◌, ℕ, ℤ, zero, suc, ◌+ℤ◌, Bool, true, false, List, [], ◌∷◌, arith}
 use Rattle.std.specs.Prelude.{map, Option, Some, None}
+use Rattle.std.proofs.Math.Nat.{le_refl, le_trans}
 use Rattle.a95_base.specs.Lists.{Every}
 use Rattle.a95_base.specs.declared.scalar.Scalar.{Scalar}
 use Rattle.a95_base.specs.Steps.{pure}
@@ -24,28 +25,28 @@ use Rattle.array_meaning.proofs.Kept.{Preorder, Keeps, Any, CallsIn, keeps_then,
 abbrev still : Preorder
 still = record {
   relation = Still;
-  same = λ s. (refl, refl);
-  join = λ a b c h g. (g.0 ∙ h.0, g.1 ∙ h.1);
-  turns = λ s n. (refl, refl);
+  same = λ s. (refl, refl, le_refl s.left);
+  join = λ a b c h g. (g.0 ∙ h.0, g.1 ∙ h.1, le_trans g.2 h.2);
+  turns = λ s n e. (refl, refl, omega arith);
 }
 
 abbrev turns_alone : Preorder
 turns_alone = record {
   relation = TurnsAlone;
-  same = λ s. refl;
-  join = λ a b c h g. g ∙ ap (λ (x : State). record x { left = c.left }) h;
-  turns = λ s n. refl;
+  same = λ s. (refl, le_refl s.left);
+  join = λ a b c h g. (g.0 ∙ ap (λ (x : State). record x { left = c.left }) h.0, le_trans g.1 h.1);
+  turns = λ s n e. (refl, omega arith);
 }
 
 -- ---- steps on variables
 
 keeps_set : (n : ℕ) (v : Variable) → Keeps still Any (set_variable n v)
 unfolding set_variable pure
-keeps_set n v = record { goes = λ s. (refl, refl); gives = λ s b e. tt }
+keeps_set n v = record { goes = λ s. (refl, refl, le_refl s.left); gives = λ s b e. tt }
 
 keeps_store : (n : ℕ) (bytes : Substring) (stores : List (ℕ × Scalar)) → Keeps still Any (store_all n bytes stores)
 unfolding store_all set_variable pure
-keeps_store n bytes stores = record { goes = λ s. (refl, refl); gives = λ s b e. tt }
+keeps_store n bytes stores = record { goes = λ s. (refl, refl, le_refl s.left); gives = λ s b e. tt }
 
 keeps_turns_left : {A : Type 0} {f : ℕ → Step A} → ((k : ℕ) → Keeps still Any (f k)) → Keeps still Any (turns_left f)
 unfolding turns_left
@@ -323,7 +324,7 @@ turns_inside own body h = record {
   where
     turns_of : (s after : State) → Still (record s { variables = own }) after → TurnsAlone s
         (record after { variables = s.variables })
-    turns_of s after k = λ i. record { variables = s.variables; input = k.0 i; written = k.1 i; left = after.left }
+    turns_of s after k = (λ i. record { variables = s.variables; input = k.0 i; written = k.1 i; left = after.left }, k.2)
 
 keeps_copy : (modified : Bool) (xs : List Scalar) (section : Option Section) → Keeps still Any (copy_back modified xs section)
 keeps_copy true xs (Some s) = keeps_store _ _ _

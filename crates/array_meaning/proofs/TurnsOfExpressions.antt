@@ -5,7 +5,7 @@ use Rattle.a95_base.specs.declared.scalar.Scalar.{Scalar}
 use Rattle.f95_unit.specs.declared.operation.Inquiry.{Inquiry}
 use Rattle.f95_unit.specs.declared.operation.Inquiry.TheVariants as inquiry
 use Rattle.f95_unit.specs.declared.operation.Reduction.{Reduction}
-use Rattle.f95_unit.specs.Plain.{Expr, typed, Literal, Constant, Index, Named, Brackets, Unary, Binary, Constructor, Elementwise, Trim, Asked, Reduced, Rearranged, Called, Designator, at, Access, Whole, Subscripted, Subscripts, no_subscript, subscript, Subscript, One, Vector, Spans, Bound, Absent, Given, Part, AllOf, BytesOf, Items, no_item, value, loop, Arguments, no_argument, argument, Subject, Name, Of, call, Program}
+use Rattle.f95_unit.specs.Plain.{Expr, typed, Literal, Constant, Index, Named, Brackets, Unary, Binary, Constructor, Elementwise, Trim, Asked, Reduced, Rearranged, Called, Designator, at, Access, Whole, Subscripted, Subscripts, no_subscript, subscript, Subscript, One, Vector, SubscriptTriplet, Bound, Absent, Given, Part, AllOf, BytesOf, Items, no_item, value, loop, Arguments, no_argument, argument, Subject, Name, Of, call, Program}
 use Rattle.array_meaning.specs.Values.{Value}
 use Rattle.array_meaning.specs.State.{Dimension, Array, Variable, Step}
 use Rattle.array_meaning.specs.Sections.{Picked, Section, placed, read_section}
@@ -22,7 +22,8 @@ module _ (calls : Caller) (line : ℕ) (same : SteadyCalls calls) where
     pub steady_element : (t : Tree) (k : ℕ) → Steady (element calls line t k)
     steady_element (Held v section) k = steady_pure _
     steady_element (UnaryOf op t) k = grows_then (steady_element t k) (λ x. steady_pure _)
-    steady_element (BinaryOf op t u) k = grows_then (steady_element t k) (λ x. grows_then (steady_element u k) (λ y. steady_given _ _))
+    steady_element (BinaryOf op t u) k = grows_then (steady_element t k)
+        (λ x. grows_then (steady_element u k) (λ y. steady_given _ _))
     steady_element (Each which ts) k = grows_then (steady_elements ts k) (λ xs. steady_given _ _)
     steady_element (CallEach p x ts) k = grows_then (steady_elements ts k) (λ xs. grows_then (same _ _ _) (λ v. steady_pure _))
 
@@ -169,7 +170,7 @@ module _ (unit : Program) (calls : Caller) (line : ℕ) (same : SteadyCalls call
     steady_pick_one ix d (One e) = grows_then (steady_number (steady_valued calls line same (steady_prepare ix e)))
         (λ i. steady_pure _)
     steady_pick_one ix d (Vector e) = grows_then (steady_valued calls line same (steady_prepare ix e)) (λ v. steady_pure _)
-    steady_pick_one ix d (Spans first last stride) = grows_then (steady_bound_or ix _ first)
+    steady_pick_one ix d (SubscriptTriplet first last stride) = grows_then (steady_bound_or ix _ first)
         (λ f. grows_then (steady_bound_or ix _ last) (λ l. grows_then (steady_bound_or ix _ stride) (λ s. steady_pure _)))
 
     pub steady_bound_or : (ix : List ℤ) (absent : ℤ) (b : Bound) → Steady (bound_or unit calls line ix absent b)

@@ -1,14 +1,18 @@
 -- Small sources that show what acts when.
-use Rattle.std.specs.Prelude.{false, Some, None, [], ◌∷◌}
+use Rattle.std.specs.Prelude.{ℕ, pos, false, Some, None, [], ◌∷◌}
 use Rattle.a95_base.specs.declared.fault.FaultKind.TheVariants as fault
 use Rattle.f95_unit.specs.declared.operation.UnaryOp.TheVariants as unary
 use Rattle.f95_unit.specs.declared.operation.BinaryOp.TheVariants as binary
 use Rattle.f95_unit.specs.declared.operation.Elemental.TheVariants as elemental
+use Rattle.f95_unit.specs.declared.operation.Inquiry.TheVariants as inquiry
 use Rattle.f95_unit.specs.declared.operation.Reduction.TheVariants as reduction
 use Rattle.f95_unit.specs.declared.operation.Rearranging.TheVariants as rearranging
 use Rattle.f95_unit.specs.declared.unit.DeclaredType.TheVariants as declared
 use Rattle.f95_unit.specs.declared.unit.Role.TheVariants as role
-use Rattle.f95_unit.specs.Plain.{typed, Named, Unary, Binary, Constructor, Elementwise, Reduced, Rearranged, at, Whole, Subscripted, no_subscript, subscript, One, Vector, Spans, Absent, Given, AllOf, no_item, value, no_argument, argument, masked, no_masked, assigning, no_other, elsewhere, Assigns, Masks, ForAll, Print, Do, no_stmt, stmt, Scalars, Explicit, Program}
+use Rattle.f95_unit.specs.Plain.{Expr, typed, Named, Asked, Of, Unary, Binary, Constructor, Elementwise, Reduced, Rearranged, at, Whole, Subscripted, no_subscript, subscript, One, Vector, SubscriptTriplet, Absent, Given, AllOf, no_item, value, no_argument, argument, masked, no_masked, assigning, no_other, elsewhere, Assigns, Masks, ForAll, Print, Do, no_stmt, stmt, Scalars, Explicit, Program}
+use Rattle.array_meaning.specs.State.{State, dimension, fresh}
+use Rattle.array_meaning.specs.Trees.{Caller}
+use Rattle.array_meaning.specs.Reads.{Reads, is_spared}
 use Rattle.array_meaning.specs.Build.{ints, logs, texts, int, index_at, target, assign, triplet, forall_over, span, entity, procedure, program, num, ended, faulted, going, Comes}
 
 --     program p
@@ -25,8 +29,8 @@ shifted_section = program
     None
     (stmt (Assigns (assign 3 (target (ints 1) (at 0 Whole AllOf)) (typed (ints 1) (Constructor (value (int 1) (value (int 2)
     (value (int 3) (value (int 4) (value (int 5) no_item))))))))) (stmt (Assigns (assign 4 (target (ints 1) (at 0
-    (Subscripted (subscript (Spans (Given (int 2)) (Given (int 5)) Absent) no_subscript)) AllOf)) (typed (ints 1) (Named
-    (at 0 (Subscripted (subscript (Spans (Given (int 1)) (Given (int 4)) Absent) no_subscript)) AllOf))))) (stmt (Print 5
+    (Subscripted (subscript (SubscriptTriplet (Given (int 2)) (Given (int 5)) Absent) no_subscript)) AllOf)) (typed (ints 1) (Named
+    (at 0 (Subscripted (subscript (SubscriptTriplet (Given (int 1)) (Given (int 4)) Absent) no_subscript)) AllOf))))) (stmt (Print 5
     ((typed (ints 1) (Named (at 0 Whole AllOf))) ∷ [])) no_stmt))))
     ([])
 
@@ -167,7 +171,8 @@ shape_before_many_one = program
     None
     (stmt (Assigns (assign 3 (target (ints 0) (at 1 Whole AllOf)) (int 2))) (stmt (Assigns (assign 4 (target (ints 1) (at 0
     (Subscripted (subscript (Vector (typed (ints 1) (Constructor (value (int 1) (value (int 1) (value (int 2) no_item))))))
-    no_subscript)) AllOf)) (typed (ints 1) (Named (at 0 (Subscripted (subscript (Spans (Given (int 1)) (Given (typed (ints
+    no_subscript)) AllOf)) (typed (ints 1) (Named (at 0 (Subscripted (subscript (SubscriptTriplet (Given (int 1)) (Given (typed
+    (ints
     0) (Named (at 1 Whole AllOf)))) Absent) no_subscript)) AllOf))))) no_stmt)))
     ([])
 
@@ -241,3 +246,22 @@ abbrev pub OrderOfThree : Type 0
 OrderOfThree = Comes order_of_three ([]) 100 (ended ((num 1 ∷ num 7 ∷ num 2 ∷ num 8 ∷ num 3 ∷ num 9 ∷ num 4 ∷ num 10 ∷ num 5
     ∷ num 11 ∷ num 6 ∷ num 12 ∷ []) ∷ (num 1 ∷ num 3 ∷ num 5 ∷ num 7 ∷ num 9 ∷ num 11 ∷ num 2 ∷ num 4 ∷ num 6 ∷ num 8 ∷ num
     10 ∷ num 12 ∷ []) ∷ []))
+
+-- with `integer :: a(5)`, the expression `a(1) + size(a(2:5))` reads no place that the store `a(2) = 9` stores into, whatever turns
+-- are left
+abbrev pub first_and_size : Expr
+first_and_size = typed (ints 0) (Binary binary.Add (typed (ints 0) (Named (at 0 (Subscripted (subscript (One (int 1))
+    no_subscript)) AllOf))) (typed (ints 0) (Asked inquiry.Size None (Of (typed (ints 1) (Named (at 0 (Subscripted (subscript
+    (SubscriptTriplet (Given (int 2)) (Given (int 5)) Absent) no_subscript)) AllOf)))))))
+
+abbrev pub five_elements : ℕ → State
+five_elements turns = record {
+  variables = fresh (num 0) (dimension (pos 1) (pos 5) ∷ []) ∷ [];
+  input = [];
+  written = [];
+  left = turns;
+}
+
+abbrev pub ReadsElsewhere : Type 0
+ReadsElsewhere = (unit : Program) (calls : Caller) (line turns : ℕ) → Reads unit calls line (five_elements turns)
+    (is_spared 0 ((1, num 9) ∷ [])) [] first_and_size

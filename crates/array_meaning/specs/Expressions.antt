@@ -18,7 +18,7 @@ use Rattle.f95_unit.specs.declared.operation.Reduction.TheVariants as reduction
 use Rattle.f95_unit.specs.declared.unit.DeclaredType.{DeclaredType}
 use Rattle.f95_unit.specs.declared.unit.DeclaredType.TheVariants as declared
 use Rattle.f95_unit.specs.declared.unit.Length.TheVariants as long
-use Rattle.f95_unit.specs.Plain.{Expr, typed, Literal, Constant, Index, Named, Brackets, Unary, Binary, Constructor, Elementwise, Trim, Asked, Reduced, Rearranged, Called, Designator, at, Access, Whole, Subscripted, Subscripts, no_subscript, subscript, Subscript, One, Vector, Spans, Bound, Absent, Given, Part, AllOf, BytesOf, Items, no_item, value, loop, Arguments, no_argument, argument, Subject, Name, Of, call, no_stmt, Entity, Procedure, Program}
+use Rattle.f95_unit.specs.Plain.{Expr, typed, Literal, Constant, Index, Named, Brackets, Unary, Binary, Constructor, Elementwise, Trim, Asked, Reduced, Rearranged, Called, Designator, at, Access, Whole, Subscripted, Subscripts, no_subscript, subscript, Subscript, One, Vector, SubscriptTriplet, Bound, Absent, Given, Part, AllOf, BytesOf, Items, no_item, value, loop, Arguments, no_argument, argument, Subject, Name, Of, call, no_stmt, Entity, Procedure, Program}
 use Rattle.array_meaning.specs.Values.{Value, nothing, integer_of, truth_of, text_of, length_of, blank_of, scalar_value, vector_value, only}
 use Rattle.array_meaning.specs.Scalars.{elemental_of}
 use Rattle.array_meaning.specs.State.{Dimension, counted_from_one, Variable, Step, unless, choose, given, allocated_array, turn, variable}
@@ -243,7 +243,7 @@ module _ (unit : Program) (calls : Caller) (line : ℕ) where
     pick_one ix d (Vector e) = do
       v ← valued calls line (prepare ix e)
       pure (Listed (map integer_of v.elements))
-    pick_one ix d (Spans first last stride) = do
+    pick_one ix d (SubscriptTriplet first last stride) = do
       f ← bound_or ix d.lower first
       l ← bound_or ix d.upper last
       s ← bound_or ix (pos 1) stride

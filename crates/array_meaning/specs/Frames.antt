@@ -1,7 +1,7 @@
 -- What a step leaves alone, and what it doesn't look at.
 use Rattle.std.specs.Prelude.{◌≡◌, ◌≢◌, ℕ, ℤ, List, slice_index_or, slice_set}
 use Rattle.a95_base.specs.declared.scalar.Scalar.{Scalar}
-use Rattle.f95_unit.specs.Plain.{Expr, typed, Literal, Constant, Index, Named, Brackets, Unary, Binary, Constructor, Elementwise, Trim, Asked, Reduced, Rearranged, Called, Designator, at, Access, Whole, Subscripted, Subscripts, no_subscript, subscript, Subscript, One, Vector, Spans, Bound, Absent, Given, Part, AllOf, BytesOf, Items, no_item, value, loop, Arguments, no_argument, argument, Subject, Name, Of, call, Program}
+use Rattle.f95_unit.specs.Plain.{Expr, typed, Literal, Constant, Index, Named, Brackets, Unary, Binary, Constructor, Elementwise, Trim, Asked, Reduced, Rearranged, Called, Designator, at, Access, Whole, Subscripted, Subscripts, no_subscript, subscript, Subscript, One, Vector, SubscriptTriplet, Bound, Absent, Given, Part, AllOf, BytesOf, Items, no_item, value, loop, Arguments, no_argument, argument, Subject, Name, Of, call, Program}
 use Rattle.array_meaning.specs.State.{Variable, State, Step, Substring, store_all}
 use Rattle.array_meaning.specs.Trees.{Passed, Caller}
 use Rattle.array_meaning.specs.Expressions.{procedure_at, evaluate}
@@ -49,7 +49,7 @@ abbrev mutual
   pub AvoidsSubscript : ℕ → Subscript → Type 0
   AvoidsSubscript k (One e) = Avoids k e
   AvoidsSubscript k (Vector e) = Avoids k e
-  AvoidsSubscript k (Spans first last stride) = AvoidsBound k first × AvoidsBound k last × AvoidsBound k stride
+  AvoidsSubscript k (SubscriptTriplet first last stride) = AvoidsBound k first × AvoidsBound k last × AvoidsBound k stride
 
   pub AvoidsBound : ℕ → Bound → Type 0
   AvoidsBound k Absent = Unit {0}
@@ -62,7 +62,8 @@ abbrev mutual
   pub AvoidsItems : ℕ → Items → Type 0
   AvoidsItems k no_item = Unit {0}
   AvoidsItems k (value e more) = Avoids k e × AvoidsItems k more
-  AvoidsItems k (loop body first last step more) = AvoidsItems k body × Avoids k first × Avoids k last × AvoidsBound k step × AvoidsItems k more
+  AvoidsItems k (loop body first last step more) = AvoidsItems k body × Avoids k first × Avoids k last × AvoidsBound k step ×
+      AvoidsItems k more
 
 -- another value in a variable
 abbrev pub with_variable : ℕ → Variable → State → State

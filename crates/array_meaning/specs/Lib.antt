@@ -16,3 +16,4 @@ pub mod Build
 pub mod Examples
 pub mod Frames
 pub mod Purity
+pub mod Reads

@@ -1,7 +1,7 @@
 -- What a pure procedure may do, by its text, and what a call of it changes.
-use Rattle.std.specs.Prelude.{◌≡◌, ℕ, Bool, true, false, ◌||◌, Option, Some, None, List}
+use Rattle.std.specs.Prelude.{◌≡◌, ℕ, ◌≤◌, Bool, true, false, ◌||◌, Option, Some, None, List}
 use Rattle.a95_base.specs.Lists.{Every}
-use Rattle.f95_unit.specs.Plain.{Expr, typed, Literal, Constant, Index, Named, Brackets, Unary, Binary, Constructor, Elementwise, Trim, Asked, Reduced, Rearranged, Called, Designator, at, Access, Whole, Subscripted, Subscripts, no_subscript, subscript, Subscript, One, Vector, Spans, Bound, Absent, Given, Part, AllOf, BytesOf, Items, no_item, value, loop, Arguments, no_argument, argument, Subject, Name, Of, call, Assign, Where, masked, MaskedBody, no_masked, assigning, narrowed, Others, no_other, elsewhere, Triplet, Forall, Span, Allocation, Stmt, Assigns, Masks, ForAll, Calls, Allocate, Deallocate, Print, Read, If, Select, Do, While, Forever, Exit, Cycle, Return, Stop, Stmts, no_stmt, stmt, Branches, no_branch, branch, Cases, no_case, case, Bounds, Scalars, Explicit, Assumed, Deferred, Entity, Procedure, Program}
+use Rattle.f95_unit.specs.Plain.{Expr, typed, Literal, Constant, Index, Named, Brackets, Unary, Binary, Constructor, Elementwise, Trim, Asked, Reduced, Rearranged, Called, Designator, at, Access, Whole, Subscripted, Subscripts, no_subscript, subscript, Subscript, One, Vector, SubscriptTriplet, Bound, Absent, Given, Part, AllOf, BytesOf, Items, no_item, value, loop, Arguments, no_argument, argument, Subject, Name, Of, call, Assign, Where, masked, MaskedBody, no_masked, assigning, narrowed, Others, no_other, elsewhere, Triplet, Forall, Span, Allocation, Stmt, Assigns, Masks, ForAll, Calls, Allocate, Deallocate, Print, Read, If, Select, Do, While, Forever, Exit, Cycle, Return, Stop, Stmts, no_stmt, stmt, Branches, no_branch, branch, Cases, no_case, case, Bounds, Scalars, Explicit, Assumed, Deferred, Entity, Procedure, Program}
 use Rattle.array_meaning.specs.State.{State, Step}
 use Rattle.array_meaning.specs.Trees.{Passed}
 use Rattle.array_meaning.specs.Expressions.{procedure_at}
@@ -49,7 +49,7 @@ module _ (P : ℕ → Type 0) where
     pub RefersSubscript : Subscript → Type 0
     RefersSubscript (One e) = Refers e
     RefersSubscript (Vector e) = Refers e
-    RefersSubscript (Spans first last stride) = RefersBound first × RefersBound last × RefersBound stride
+    RefersSubscript (SubscriptTriplet first last stride) = RefersBound first × RefersBound last × RefersBound stride
 
     pub RefersBound : Bound → Type 0
     RefersBound Absent = Unit {0}
@@ -62,7 +62,8 @@ module _ (P : ℕ → Type 0) where
     pub RefersItems : Items → Type 0
     RefersItems no_item = Unit {0}
     RefersItems (value e more) = Refers e × RefersItems more
-    RefersItems (loop body first last step more) = RefersItems body × Refers first × Refers last × RefersBound step × RefersItems more
+    RefersItems (loop body first last step more) = RefersItems body × Refers first × Refers last × RefersBound step × RefersItems
+        more
 
   abbrev pub RefersMaybe : Option Expr → Type 0
   RefersMaybe None = Unit {0}
@@ -163,13 +164,13 @@ module _ (unit : Program) where
 
 -- ---- what it changes
 
--- no input is read and nothing is written
+-- no input is read, nothing is written, and no turn comes back
 abbrev pub Still : State → State → Type 0
-Still before after = (after.input ≡ before.input) × (after.written ≡ before.written)
+Still before after = (after.input ≡ before.input) × (after.written ≡ before.written) × (after.left ≤ before.left)
 
 -- turns alone are taken
 abbrev pub TurnsAlone : State → State → Type 0
-TurnsAlone before after = after ≡ record before { left = after.left }
+TurnsAlone before after = (after ≡ record before { left = after.left }) × (after.left ≤ before.left)
 
 abbrev pub Changes : {A : Type 0} → (State → State → Type 0) → Step A → Type 0
 Changes R m = (s : State) → R s (m s).after

@@ -2,6 +2,7 @@
 
 ghost use Rattle.array_meaning.specs.Frames.{FunctionCallsIgnore, StoresLeaveOthers, ValuesIgnoreOthers};
 ghost use Rattle.array_meaning.specs.Purity.{PureCallsAreStill, PureFunctionsTakeTurns};
+ghost use Rattle.array_meaning.specs.Reads.{PartsComeOfReads, PureFunctionsSeeActuals, ValuesComeOfReads, ValuesIgnoreStores};
 ghost use Rattle.array_meaning.specs.RunLaws.{MoreTurns, ValuesAreFull, ConformingIsOneShape};
 
 /// More turns don't change how a source ended, and with more turns nothing that was written changes. A run has one outcome,
@@ -33,12 +34,32 @@ pub fn function_calls_ignore()
     ensures { FunctionCallsIgnore }
 {}
 
+/// The value of an expression comes of the elements that it reads: where the variables of two states agree on these, on bounds,
+/// lengths and allocation, it is the same, its fault and its turns too, and the variables stay, if its calls see their actuals
+/// alone. With all places but one this says that no other element counts.
+pub fn values_come_of_reads()
+    ensures parts { PartsComeOfReads }
+    ensures values { ValuesComeOfReads }
+{}
+
+/// An expression that reads no place of a store comes to the same before and behind it, and the store does the same behind it.
+pub fn values_ignore_stores()
+    ensures { ValuesIgnoreStores }
+{}
+
+/// A call of a procedure that is a pure function by its text sees its actuals alone. So the two laws above are of use with the
+/// caller that a run has.
+pub fn pure_functions_see_actuals()
+    ensures { PureFunctionsSeeActuals }
+{}
+
 /// A store changes its variable, and no other one, no input, no output and no turn.
 pub fn stores_leave_others()
     ensures { StoresLeaveOthers }
 {}
 
-/// A call of a procedure that is pure by its text reads no input and writes nothing; one of a function takes turns alone.
+/// A call of a procedure that is pure by its text reads no input, writes nothing and brings no turn back; one of a function takes
+/// turns alone.
 pub fn pure_calls()
     ensures still { PureCallsAreStill }
     ensures functions { PureFunctionsTakeTurns }

@@ -6,7 +6,7 @@ use Rattle.f95_unit.specs.declared.operation.Elemental.TheVariants as elemental
 use Rattle.f95_unit.specs.declared.unit.DeclaredType.TheVariants as declared
 use Rattle.f95_unit.specs.declared.unit.Length.TheVariants as long
 use Rattle.f95_unit.specs.declared.unit.Role.TheVariants as role
-use Rattle.f95_unit.specs.Plain.{typed, Named, Brackets, Unary, Binary, Constructor, Elementwise, at, Whole, Subscripted, no_subscript, subscript, One, Vector, Spans, Absent, Given, AllOf, no_item, value, no_argument, argument, Assigns, ForAll, Print, no_stmt, stmt, Scalars, Explicit, Program}
+use Rattle.f95_unit.specs.Plain.{typed, Named, Brackets, Unary, Binary, Constructor, Elementwise, at, Whole, Subscripted, no_subscript, subscript, One, Vector, SubscriptTriplet, Absent, Given, AllOf, no_item, value, no_argument, argument, Assigns, ForAll, Print, no_stmt, stmt, Scalars, Explicit, Program}
 use Rattle.array_meaning.specs.Build.{ints, texts, int, text, index_at, target, assign, triplet, forall_over, span, entity, procedure, program, num, chars, ended, Comes}
 
 --     program p; integer :: a(3); a = 2; print *, a; end
@@ -37,9 +37,9 @@ both_neighbours = program
     None
     (stmt (Assigns (assign 3 (target (ints 1) (at 0 Whole AllOf)) (typed (ints 1) (Constructor (value (int 1) (value (int 2)
     (value (int 3) (value (int 4) (value (int 5) no_item))))))))) (stmt (Assigns (assign 4 (target (ints 1) (at 0
-    (Subscripted (subscript (Spans (Given (int 2)) (Given (int 4)) Absent) no_subscript)) AllOf)) (typed (ints 1) (Binary
-    binary.Add (typed (ints 1) (Named (at 0 (Subscripted (subscript (Spans (Given (int 1)) (Given (int 3)) Absent)
-    no_subscript)) AllOf))) (typed (ints 1) (Named (at 0 (Subscripted (subscript (Spans (Given (int 3)) (Given (int 5))
+    (Subscripted (subscript (SubscriptTriplet (Given (int 2)) (Given (int 4)) Absent) no_subscript)) AllOf)) (typed (ints 1) (Binary
+    binary.Add (typed (ints 1) (Named (at 0 (Subscripted (subscript (SubscriptTriplet (Given (int 1)) (Given (int 3)) Absent)
+    no_subscript)) AllOf))) (typed (ints 1) (Named (at 0 (Subscripted (subscript (SubscriptTriplet (Given (int 3)) (Given (int 5))
     Absent) no_subscript)) AllOf))))))) (stmt (Print 5 ((typed (ints 1) (Named (at 0 Whole AllOf))) ∷ [])) no_stmt))))
     ([])
 
@@ -60,7 +60,7 @@ reversed_onto_itself = program
     None
     (stmt (Assigns (assign 3 (target (ints 1) (at 0 Whole AllOf)) (typed (ints 1) (Constructor (value (int 1) (value (int 2)
     (value (int 3) (value (int 4) (value (int 5) no_item))))))))) (stmt (Assigns (assign 4 (target (ints 1) (at 0
-    (Subscripted (subscript (Spans (Given (int 5)) (Given (int 1)) (Given (typed (ints 0) (Unary unary.Minus (int 1)))))
+    (Subscripted (subscript (SubscriptTriplet (Given (int 5)) (Given (int 1)) (Given (typed (ints 0) (Unary unary.Minus (int 1)))))
     no_subscript)) AllOf)) (typed (ints 1) (Named (at 0 Whole AllOf))))) (stmt (Print 5 ((typed (ints 1) (Named (at 0 Whole
     AllOf))) ∷ [])) no_stmt))))
     ([])
@@ -85,9 +85,12 @@ block_moved = program
     (target (ints 0) (at 0 (Subscripted (subscript (One (index_at 0)) (subscript (One (index_at 1)) no_subscript))) AllOf))
     (typed (ints 0) (Binary binary.Add (index_at 0) (typed (ints 0) (Binary binary.Multiply (int 3) (typed (ints 0)
     (Brackets (typed (ints 0) (Binary binary.Subtract (index_at 1) (int 1))))))))) ∷ []))) (stmt (Assigns (assign 4 (target
-    (ints 2) (at 0 (Subscripted (subscript (Spans (Given (int 2)) (Given (int 3)) Absent) (subscript (Spans (Given (int 1))
-    (Given (int 2)) Absent) no_subscript))) AllOf)) (typed (ints 2) (Named (at 0 (Subscripted (subscript (Spans (Given (int
-    1)) (Given (int 2)) Absent) (subscript (Spans (Given (int 2)) (Given (int 3)) Absent) no_subscript))) AllOf))))) (stmt
+    (ints 2) (at 0 (Subscripted (subscript (SubscriptTriplet (Given (int 2)) (Given (int 3)) Absent) (subscript (SubscriptTriplet
+    (Given (int 1))
+    (Given (int 2)) Absent) no_subscript))) AllOf)) (typed (ints 2) (Named (at 0 (Subscripted (subscript (SubscriptTriplet (Given
+    (int
+    1)) (Given (int 2)) Absent) (subscript (SubscriptTriplet (Given (int 2)) (Given (int 3)) Absent) no_subscript))) AllOf)))))
+    (stmt
     (Print 5 ((typed (ints 2) (Named (at 0 Whole AllOf))) ∷ [])) no_stmt))))
     ([])
 
@@ -119,8 +122,8 @@ no_places_no_bounds = program
     (entity 1 declared.Integer (Explicit (span Absent (int 3) ∷ [])) role.Own None ∷ [])
     None
     (stmt (Assigns (assign 1 (target (ints 1) (at 0 Whole AllOf)) (int 4))) (stmt (Assigns (assign 1 (target (ints 1) (at 0
-    (Subscripted (subscript (Spans (Given (int 5)) (Given (int 1)) Absent) no_subscript)) AllOf)) (typed (ints 1) (Named
-    (at 0 (Subscripted (subscript (Spans (Given (int 9)) (Given (int 8)) Absent) no_subscript)) AllOf))))) (stmt (Print 1
+    (Subscripted (subscript (SubscriptTriplet (Given (int 5)) (Given (int 1)) Absent) no_subscript)) AllOf)) (typed (ints 1) (Named
+    (at 0 (Subscripted (subscript (SubscriptTriplet (Given (int 9)) (Given (int 8)) Absent) no_subscript)) AllOf))))) (stmt (Print 1
     ((typed (ints 1) (Named (at 0 Whole AllOf))) ∷ [])) no_stmt))))
     ([])
 
@@ -171,12 +174,13 @@ bounds_and_negative_stride = program
     None
     (stmt (Assigns (assign 3 (target (ints 1) (at 0 Whole AllOf)) (typed (ints 1) (Constructor (value (int 1) (value (int 2)
     (value (int 3) (value (int 4) (value (int 5) no_item))))))))) (stmt (Assigns (assign 4 (target (ints 1) (at 0
-    (Subscripted (subscript (Spans (Given (int 3)) (Given (typed (ints 0) (Unary unary.Minus (int 1)))) (Given (typed (ints
-    0) (Unary unary.Minus (int 2))))) no_subscript)) AllOf)) (typed (ints 1) (Named (at 0 (Subscripted (subscript (Spans
+    (Subscripted (subscript (SubscriptTriplet (Given (int 3)) (Given (typed (ints 0) (Unary unary.Minus (int 1)))) (Given (typed
+    (ints
+    0) (Unary unary.Minus (int 2))))) no_subscript)) AllOf)) (typed (ints 1) (Named (at 0 (Subscripted (subscript (SubscriptTriplet
     (Given (int 0)) (Given (int 2)) Absent) no_subscript)) AllOf))))) (stmt (Print 5 ((typed (ints 0) (Named (at 0
     (Subscripted (subscript (One (typed (ints 0) (Unary unary.Minus (int 1)))) no_subscript)) AllOf))) ∷ (typed (ints 1)
-    (Named (at 0 (Subscripted (subscript (Spans (Given (int 1)) Absent (Given (int 1))) no_subscript)) AllOf))) ∷ (typed
-    (ints 1) (Named (at 0 (Subscripted (subscript (Spans Absent (Given (int 0)) Absent) no_subscript)) AllOf))) ∷ []))
+    (Named (at 0 (Subscripted (subscript (SubscriptTriplet (Given (int 1)) Absent (Given (int 1))) no_subscript)) AllOf))) ∷ (typed
+    (ints 1) (Named (at 0 (Subscripted (subscript (SubscriptTriplet Absent (Given (int 0)) Absent) no_subscript)) AllOf))) ∷ []))
     no_stmt))))
     ([])
 

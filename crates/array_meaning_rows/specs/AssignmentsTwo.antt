@@ -9,7 +9,7 @@ use Rattle.f95_unit.specs.declared.operation.Reduction.TheVariants as reduction
 use Rattle.f95_unit.specs.declared.unit.DeclaredType.TheVariants as declared
 use Rattle.f95_unit.specs.declared.unit.Length.TheVariants as long
 use Rattle.f95_unit.specs.declared.unit.Role.TheVariants as role
-use Rattle.f95_unit.specs.Plain.{typed, Named, Brackets, Unary, Binary, Constructor, Elementwise, Asked, Reduced, at, Whole, Subscripted, no_subscript, subscript, One, Spans, Absent, Given, AllOf, BytesOf, no_item, value, loop, no_argument, argument, Of, Assigns, Print, no_stmt, stmt, Scalars, Explicit, Program}
+use Rattle.f95_unit.specs.Plain.{typed, Named, Brackets, Unary, Binary, Constructor, Elementwise, Asked, Reduced, at, Whole, Subscripted, no_subscript, subscript, One, SubscriptTriplet, Absent, Given, AllOf, BytesOf, no_item, value, loop, no_argument, argument, Of, Assigns, Print, no_stmt, stmt, Scalars, Explicit, Program}
 use Rattle.array_meaning.specs.Build.{ints, logs, texts, some_texts, int, text, index_at, target, assign, span, entity, procedure, program, num, neg, chars, truth, ended, faulted, Comes}
 
 --     program p
@@ -31,7 +31,7 @@ substring_stored = program
     (stmt (Assigns (assign 3 (target (texts 6 0) (at 0 Whole AllOf)) (text 6 (97 ∷ 98 ∷ 99 ∷ 100 ∷ 101 ∷ 102 ∷ [])))) (stmt
     (Assigns (assign 4 (target (texts 2 0) (at 0 Whole (BytesOf (Given (int 3)) (Given (int 4))))) (text 3 (120 ∷ 121 ∷ 122
     ∷ [])))) (stmt (Assigns (assign 5 (target (texts 6 1) (at 1 Whole AllOf)) (text 6 (117 ∷ 118 ∷ 119 ∷ 120 ∷ 121 ∷ 122 ∷
-    [])))) (stmt (Assigns (assign 6 (target (some_texts 1) (at 1 (Subscripted (subscript (Spans Absent Absent Absent)
+    [])))) (stmt (Assigns (assign 6 (target (some_texts 1) (at 1 (Subscripted (subscript (SubscriptTriplet Absent Absent Absent)
     no_subscript)) (BytesOf (Given (int 5)) Absent))) (text 1 (81 ∷ [])))) (stmt (Assigns (assign 7 (target (texts 0 0) (at
     0 Whole (BytesOf (Given (int 4)) (Given (int 2))))) (text 2 (110 ∷ 111 ∷ [])))) (stmt (Print 8 ((typed (texts 6 0)
     (Named (at 0 Whole AllOf))) ∷ (typed (texts 6 1) (Named (at 1 Whole AllOf))) ∷ (typed (texts 2 0) (Named (at 0 Whole
@@ -126,9 +126,10 @@ bounds_left_out_are_declared = program
     (procedure 1 false false false
     (entity 2 declared.Integer (Explicit (span (Given (int 5)) (int 1) ∷ [])) role.Own None ∷ [])
     None
-    (stmt (Print 3 ((typed (ints 0) (Asked inquiry.Size None (Of (typed (ints 1) (Named (at 0 (Subscripted (subscript (Spans
+    (stmt (Print 3 ((typed (ints 0) (Asked inquiry.Size None (Of (typed (ints 1) (Named (at 0 (Subscripted (subscript
+    (SubscriptTriplet
     Absent Absent Absent) no_subscript)) AllOf)))))) ∷ [])) (stmt (Print 4 ((typed (ints 1) (Named (at 0 (Subscripted
-    (subscript (Spans Absent Absent (Given (typed (ints 0) (Unary unary.Minus (int 1))))) no_subscript)) AllOf))) ∷ []))
+    (subscript (SubscriptTriplet Absent Absent (Given (typed (ints 0) (Unary unary.Minus (int 1))))) no_subscript)) AllOf))) ∷ []))
     no_stmt)))
     ([])
 
@@ -148,16 +149,18 @@ two_dimensions = program
     (procedure 1 false false false
     (entity 2 declared.Integer (Explicit (span (Given (int 0)) (int 1) ∷ span Absent (int 3) ∷ [])) role.Own None ∷ [])
     None
-    (stmt (Assigns (assign 3 (target (ints 1) (at 0 (Subscripted (subscript (One (int 0)) (subscript (Spans Absent Absent
+    (stmt (Assigns (assign 3 (target (ints 1) (at 0 (Subscripted (subscript (One (int 0)) (subscript (SubscriptTriplet Absent Absent
     Absent) no_subscript))) AllOf)) (typed (ints 1) (Constructor (value (int 1) (value (int 2) (value (int 3)
-    no_item))))))) (stmt (Assigns (assign 4 (target (ints 1) (at 0 (Subscripted (subscript (One (int 1)) (subscript (Spans
+    no_item))))))) (stmt (Assigns (assign 4 (target (ints 1) (at 0 (Subscripted (subscript (One (int 1)) (subscript
+    (SubscriptTriplet
     Absent Absent Absent) no_subscript))) AllOf)) (typed (ints 1) (Binary binary.Multiply (typed (ints 1) (Named (at 0
-    (Subscripted (subscript (One (int 0)) (subscript (Spans (Given (int 3)) (Given (int 1)) (Given (typed (ints 0) (Unary
+    (Subscripted (subscript (One (int 0)) (subscript (SubscriptTriplet (Given (int 3)) (Given (int 1)) (Given (typed (ints 0) (Unary
     unary.Minus (int 1))))) no_subscript))) AllOf))) (int 10))))) (stmt (Assigns (assign 5 (target (ints 1) (at 0
-    (Subscripted (subscript (Spans Absent Absent Absent) (subscript (One (int 2)) no_subscript))) AllOf)) (typed (ints 1)
-    (Named (at 0 (Subscripted (subscript (Spans Absent Absent Absent) (subscript (One (typed (ints 0) (Brackets (typed
+    (Subscripted (subscript (SubscriptTriplet Absent Absent Absent) (subscript (One (int 2)) no_subscript))) AllOf)) (typed (ints 1)
+    (Named (at 0 (Subscripted (subscript (SubscriptTriplet Absent Absent Absent) (subscript (One (typed (ints 0) (Brackets (typed
     (ints 0) (Binary binary.Add (int 1) (int 2)))))) no_subscript))) AllOf))))) (stmt (Print 6 ((typed (ints 2) (Named (at
-    0 Whole AllOf))) ∷ (typed (ints 1) (Named (at 0 (Subscripted (subscript (One (int 1)) (subscript (Spans (Given (int 2))
+    0 Whole AllOf))) ∷ (typed (ints 1) (Named (at 0 (Subscripted (subscript (One (int 1)) (subscript (SubscriptTriplet (Given (int
+    2))
     Absent Absent) no_subscript))) AllOf))) ∷ [])) no_stmt)))))
     ([])
 
@@ -182,10 +185,12 @@ text_arrays_compared = program
     ∷ [])) (value (text 2 (98 ∷ 98 ∷ [])) (value (text 2 (97 ∷ 32 ∷ [])) no_item))))))) (stmt (Print 4 ((typed (logs 1)
     (Binary binary.Equal (typed (texts 2 1) (Named (at 0 Whole AllOf))) (text 1 (97 ∷ [])))) ∷ (typed (texts 4 1) (Binary
     binary.Concat (typed (texts 2 1) (Named (at 0 Whole AllOf))) (typed (texts 2 1) (Named (at 0 (Subscripted (subscript
-    (Spans (Given (int 3)) (Given (int 1)) (Given (typed (ints 0) (Unary unary.Minus (int 1))))) no_subscript)) AllOf)))))
-    ∷ [])) (stmt (Assigns (assign 5 (target (texts 1 1) (at 0 (Subscripted (subscript (Spans (Given (int 2)) (Given (int
+    (SubscriptTriplet (Given (int 3)) (Given (int 1)) (Given (typed (ints 0) (Unary unary.Minus (int 1))))) no_subscript))
+    AllOf)))))
+    ∷ [])) (stmt (Assigns (assign 5 (target (texts 1 1) (at 0 (Subscripted (subscript (SubscriptTriplet (Given (int 2)) (Given (int
     3)) Absent) no_subscript)) (BytesOf (Given (int 2)) (Given (int 2))))) (typed (texts 1 1) (Named (at 0 (Subscripted
-    (subscript (Spans (Given (int 1)) (Given (int 2)) Absent) no_subscript)) (BytesOf (Given (int 1)) (Given (int 1))))))))
+    (subscript (SubscriptTriplet (Given (int 1)) (Given (int 2)) Absent) no_subscript)) (BytesOf (Given (int 1)) (Given (int
+    1))))))))
     (stmt (Print 6 ((typed (texts 2 1) (Named (at 0 Whole AllOf))) ∷ [])) no_stmt)))))
     ([])
 

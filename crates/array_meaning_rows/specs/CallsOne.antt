@@ -9,7 +9,7 @@ use Rattle.f95_unit.specs.declared.unit.DeclaredType.TheVariants as declared
 use Rattle.f95_unit.specs.declared.unit.Length.TheVariants as long
 use Rattle.f95_unit.specs.declared.unit.Role.TheVariants as role
 use Rattle.f95_unit.specs.declared.unit.Intent.TheVariants as intent
-use Rattle.f95_unit.specs.Plain.{typed, Named, Binary, Constructor, Asked, Reduced, Called, at, Whole, Subscripted, no_subscript, subscript, One, Spans, Absent, Given, AllOf, no_item, value, no_argument, argument, Name, Of, call, Assigns, Calls, Print, If, Do, Return, no_stmt, stmt, no_branch, branch, Scalars, Explicit, Assumed, Program}
+use Rattle.f95_unit.specs.Plain.{typed, Named, Binary, Constructor, Asked, Reduced, Called, at, Whole, Subscripted, no_subscript, subscript, One, SubscriptTriplet, Absent, Given, AllOf, no_item, value, no_argument, argument, Name, Of, call, Assigns, Calls, Print, If, Do, Return, no_stmt, stmt, no_branch, branch, Scalars, Explicit, Assumed, Program}
 use Rattle.array_meaning.specs.Build.{ints, logs, texts, some_texts, int, text, constant_at, target, assign, span, entity, procedure, program, num, chars, ended, faulted, Comes}
 
 --     program p
@@ -32,8 +32,9 @@ two_sections_apart = program
     None
     (stmt (Assigns (assign 3 (target (ints 1) (at 0 Whole AllOf)) (typed (ints 1) (Constructor (value (int 1) (value (int 2)
     (value (int 3) (value (int 4) (value (int 5) no_item))))))))) (stmt (Calls 4 (call 0 (argument 0 (typed (ints 1) (Named
-    (at 0 (Subscripted (subscript (Spans (Given (int 1)) (Given (int 5)) (Given (int 2))) no_subscript)) AllOf))) (argument
-    1 (typed (ints 1) (Named (at 0 (Subscripted (subscript (Spans (Given (int 2)) (Given (int 4)) (Given (int 2)))
+    (at 0 (Subscripted (subscript (SubscriptTriplet (Given (int 1)) (Given (int 5)) (Given (int 2))) no_subscript)) AllOf)))
+    (argument
+    1 (typed (ints 1) (Named (at 0 (Subscripted (subscript (SubscriptTriplet (Given (int 2)) (Given (int 4)) (Given (int 2)))
     no_subscript)) AllOf))) no_argument)))) (stmt (Print 5 ((typed (ints 1) (Named (at 0 Whole AllOf))) ∷ [])) no_stmt))))
     ((procedure 7 false false false
     (entity 8 declared.Integer (Assumed (Absent ∷ [])) (role.Dummy 0 intent.InOut) None ∷ entity 8 declared.Integer (Assumed
@@ -66,8 +67,9 @@ two_sections_overlap = program
     None
     (stmt (Assigns (assign 3 (target (ints 1) (at 0 Whole AllOf)) (typed (ints 1) (Constructor (value (int 1) (value (int 2)
     (value (int 3) (value (int 4) (value (int 5) no_item))))))))) (stmt (Calls 4 (call 0 (argument 0 (typed (ints 1) (Named
-    (at 0 (Subscripted (subscript (Spans (Given (int 1)) (Given (int 3)) Absent) no_subscript)) AllOf))) (argument 1 (typed
-    (ints 1) (Named (at 0 (Subscripted (subscript (Spans (Given (int 3)) (Given (int 5)) Absent) no_subscript)) AllOf)))
+    (at 0 (Subscripted (subscript (SubscriptTriplet (Given (int 1)) (Given (int 3)) Absent) no_subscript)) AllOf))) (argument 1
+    (typed
+    (ints 1) (Named (at 0 (Subscripted (subscript (SubscriptTriplet (Given (int 3)) (Given (int 5)) Absent) no_subscript)) AllOf)))
     no_argument)))) (stmt (Print 5 ((typed (ints 1) (Named (at 0 Whole AllOf))) ∷ [])) no_stmt))))
     ((procedure 7 false false false
     (entity 8 declared.Integer (Assumed (Absent ∷ [])) (role.Dummy 0 intent.InOut) None ∷ entity 8 declared.Integer (Assumed
@@ -98,9 +100,9 @@ elemental_reference = program
     (entity 2 declared.Integer (Explicit (span Absent (int 3) ∷ [])) role.Own None ∷ [])
     None
     (stmt (Assigns (assign 3 (target (ints 1) (at 0 Whole AllOf)) (typed (ints 1) (Constructor (value (int 1) (value (int 2)
-    (value (int 0) no_item))))))) (stmt (Assigns (assign 4 (target (ints 1) (at 0 (Subscripted (subscript (Spans (Given
+    (value (int 0) no_item))))))) (stmt (Assigns (assign 4 (target (ints 1) (at 0 (Subscripted (subscript (SubscriptTriplet (Given
     (int 2)) (Given (int 3)) Absent) no_subscript)) AllOf)) (typed (ints 1) (Called (call 0 (argument 0 (typed (ints 1)
-    (Named (at 0 (Subscripted (subscript (Spans (Given (int 1)) (Given (int 2)) Absent) no_subscript)) AllOf)))
+    (Named (at 0 (Subscripted (subscript (SubscriptTriplet (Given (int 1)) (Given (int 2)) Absent) no_subscript)) AllOf)))
     no_argument)))))) (stmt (Print 5 ((typed (ints 1) (Named (at 0 Whole AllOf))) ∷ [])) no_stmt))))
     ((procedure 7 false false true
     (entity 7 declared.Integer Scalars role.Own None ∷ entity 8 declared.Integer Scalars (role.Dummy 0 intent.In) None ∷ [])
@@ -129,9 +131,9 @@ elemental_reference_faults = program
     (entity 2 declared.Integer (Explicit (span Absent (int 3) ∷ [])) role.Own None ∷ [])
     None
     (stmt (Assigns (assign 3 (target (ints 1) (at 0 Whole AllOf)) (typed (ints 1) (Constructor (value (int 0) (value (int 2)
-    (value (int 0) no_item))))))) (stmt (Assigns (assign 4 (target (ints 1) (at 0 (Subscripted (subscript (Spans (Given
+    (value (int 0) no_item))))))) (stmt (Assigns (assign 4 (target (ints 1) (at 0 (Subscripted (subscript (SubscriptTriplet (Given
     (int 2)) (Given (int 3)) Absent) no_subscript)) AllOf)) (typed (ints 1) (Called (call 0 (argument 0 (typed (ints 1)
-    (Named (at 0 (Subscripted (subscript (Spans (Given (int 1)) (Given (int 2)) Absent) no_subscript)) AllOf)))
+    (Named (at 0 (Subscripted (subscript (SubscriptTriplet (Given (int 1)) (Given (int 2)) Absent) no_subscript)) AllOf)))
     no_argument)))))) (stmt (Print 5 ((typed (ints 1) (Named (at 0 Whole AllOf))) ∷ [])) no_stmt))))
     ((procedure 7 false false true
     (entity 7 declared.Integer Scalars role.Own None ∷ entity 8 declared.Integer Scalars (role.Dummy 0 intent.In) None ∷ [])
@@ -160,7 +162,8 @@ explicit_shape_dummy = program
     (entity 2 declared.Integer (Explicit (span Absent (int 5) ∷ [])) role.Own None ∷ [])
     None
     (stmt (Assigns (assign 3 (target (ints 1) (at 0 Whole AllOf)) (int 1))) (stmt (Calls 4 (call 0 (argument 0 (typed (ints
-    1) (Named (at 0 (Subscripted (subscript (Spans (Given (int 1)) (Given (int 5)) (Given (int 2))) no_subscript)) AllOf)))
+    1) (Named (at 0 (Subscripted (subscript (SubscriptTriplet (Given (int 1)) (Given (int 5)) (Given (int 2))) no_subscript))
+    AllOf)))
     no_argument))) (stmt (Print 5 ((typed (ints 1) (Named (at 0 Whole AllOf))) ∷ [])) no_stmt))))
     ((procedure 7 false false false
     (entity 8 declared.Integer (Explicit (span Absent (int 3) ∷ [])) (role.Dummy 0 intent.InOut) None ∷ [])
@@ -189,7 +192,8 @@ explicit_shape_differs = program
     (entity 2 declared.Integer (Explicit (span Absent (int 5) ∷ [])) role.Own None ∷ [])
     None
     (stmt (Assigns (assign 3 (target (ints 1) (at 0 Whole AllOf)) (int 1))) (stmt (Calls 4 (call 0 (argument 0 (typed (ints
-    1) (Named (at 0 (Subscripted (subscript (Spans (Given (int 1)) (Given (int 5)) (Given (int 2))) no_subscript)) AllOf)))
+    1) (Named (at 0 (Subscripted (subscript (SubscriptTriplet (Given (int 1)) (Given (int 5)) (Given (int 2))) no_subscript))
+    AllOf)))
     no_argument))) (stmt (Print 5 ((typed (ints 1) (Named (at 0 Whole AllOf))) ∷ [])) no_stmt))))
     ((procedure 7 false false false
     (entity 8 declared.Integer (Explicit (span Absent (int 4) ∷ [])) (role.Dummy 0 intent.InOut) None ∷ [])

@@ -9,7 +9,7 @@ use Rattle.f95_unit.specs.declared.unit.DeclaredType.TheVariants as declared
 use Rattle.f95_unit.specs.declared.unit.Length.TheVariants as long
 use Rattle.f95_unit.specs.declared.unit.Role.TheVariants as role
 use Rattle.f95_unit.specs.declared.unit.Intent.TheVariants as intent
-use Rattle.f95_unit.specs.Plain.{typed, Named, Brackets, Unary, Binary, Constructor, Trim, Asked, Rearranged, Called, at, Whole, Subscripted, no_subscript, subscript, One, Vector, Spans, Absent, Given, AllOf, no_item, value, no_argument, argument, Name, call, masked, no_masked, assigning, no_other, elsewhere, Assigns, Masks, Calls, Allocate, Print, Do, no_stmt, stmt, Scalars, Explicit, Assumed, Deferred, Program}
+use Rattle.f95_unit.specs.Plain.{typed, Named, Brackets, Unary, Binary, Constructor, Trim, Asked, Rearranged, Called, at, Whole, Subscripted, no_subscript, subscript, One, Vector, SubscriptTriplet, Absent, Given, AllOf, no_item, value, no_argument, argument, Name, call, masked, no_masked, assigning, no_other, elsewhere, Assigns, Masks, Calls, Allocate, Print, Do, no_stmt, stmt, Scalars, Explicit, Assumed, Deferred, Program}
 use Rattle.array_meaning.specs.Build.{ints, logs, texts, some_texts, int, text, target, assign, span, allocation, entity, procedure, program, num, chars, ended, faulted, going, Comes}
 
 --     program p
@@ -76,7 +76,8 @@ blinker = program
     declared.Integer Scalars role.Own None ∷ [])
     None
     (stmt (Assigns (assign 19 (target (ints 2) (at 0 Whole AllOf)) (int 0))) (stmt (Assigns (assign 20 (target (ints 1) (at 0
-    (Subscripted (subscript (Spans (Given (int 2)) (Given (int 4)) Absent) (subscript (One (int 3)) no_subscript))) AllOf))
+    (Subscripted (subscript (SubscriptTriplet (Given (int 2)) (Given (int 4)) Absent) (subscript (One (int 3)) no_subscript)))
+    AllOf))
     (int 1))) (stmt (Do 21 1 (int 1) (int 2) Absent (stmt (Calls 22 (call 0 (argument 0 (typed (ints 2) (Named (at 0 Whole
     AllOf))) no_argument))) (stmt (Print 23 ((typed (ints 2) (Named (at 0 Whole AllOf))) ∷ [])) no_stmt))) no_stmt))))
     ((procedure 3 false false false
@@ -164,7 +165,7 @@ vector_subscript_is_a_value = program
     None
     (stmt (Assigns (assign 3 (target (ints 1) (at 0 Whole AllOf)) (typed (ints 1) (Constructor (value (int 1) (value (int 2)
     (value (int 3) no_item))))))) (stmt (Calls 4 (call 0 (argument 0 (typed (ints 1) (Named (at 0 (Subscripted (subscript
-    (Spans (Given (int 1)) (Given (int 2)) Absent) no_subscript)) AllOf))) (argument 1 (typed (ints 1) (Named (at 0
+    (SubscriptTriplet (Given (int 1)) (Given (int 2)) Absent) no_subscript)) AllOf))) (argument 1 (typed (ints 1) (Named (at 0
     (Subscripted (subscript (Vector (typed (ints 1) (Constructor (value (int 1) (value (int 2) no_item))))) no_subscript))
     AllOf))) no_argument)))) (stmt (Print 5 ((typed (ints 1) (Named (at 0 Whole AllOf))) ∷ [])) no_stmt))))
     ((procedure 7 false false false

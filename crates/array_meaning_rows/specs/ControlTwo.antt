@@ -8,7 +8,7 @@ use Rattle.f95_unit.specs.declared.operation.Inquiry.TheVariants as inquiry
 use Rattle.f95_unit.specs.declared.stmt.Range.TheVariants as range
 use Rattle.f95_unit.specs.declared.unit.DeclaredType.TheVariants as declared
 use Rattle.f95_unit.specs.declared.unit.Role.TheVariants as role
-use Rattle.f95_unit.specs.Plain.{typed, Named, Unary, Binary, Constructor, Asked, at, Whole, Subscripted, no_subscript, subscript, One, Spans, Absent, Given, AllOf, no_item, value, loop, Name, Assigns, Allocate, Deallocate, Print, If, Select, Do, no_stmt, stmt, no_branch, branch, no_case, case, Scalars, Deferred, Program}
+use Rattle.f95_unit.specs.Plain.{typed, Named, Unary, Binary, Constructor, Asked, at, Whole, Subscripted, no_subscript, subscript, One, SubscriptTriplet, Absent, Given, AllOf, no_item, value, loop, Name, Assigns, Allocate, Deallocate, Print, If, Select, Do, no_stmt, stmt, no_branch, branch, no_case, case, Scalars, Deferred, Program}
 use Rattle.array_meaning.specs.Build.{ints, logs, texts, int, log, text, index_at, target, assign, span, allocation, entity, procedure, program, num, neg, chars, truth, ended, faulted, going, Comes}
 
 --     program p
@@ -28,7 +28,7 @@ allocate_and_free = program
     None
     (stmt (Print 3 ((typed (logs 0) (Asked inquiry.Allocated None (Name 0))) ∷ [])) (stmt (Allocate 4 (allocation 0 (span
     (Given (int 0)) (int 1) ∷ span Absent (int 2) ∷ []) ∷ [])) (stmt (Assigns (assign 5 (target (ints 1) (at 0 (Subscripted
-    (subscript (Spans Absent Absent Absent) (subscript (One (int 1)) no_subscript))) AllOf)) (int 5))) (stmt (Print 6
+    (subscript (SubscriptTriplet Absent Absent Absent) (subscript (One (int 1)) no_subscript))) AllOf)) (int 5))) (stmt (Print 6
     ((typed (logs 0) (Asked inquiry.Allocated None (Name 0))) ∷ (typed (ints 2) (Named (at 0 Whole AllOf))) ∷ (typed (ints
     1) (Asked inquiry.Lbound None (Name 0))) ∷ (typed (ints 0) (Asked inquiry.Ubound (Some 1) (Name 0))) ∷ [])) (stmt
     (Deallocate 7 (0 ∷ [])) (stmt (Print 8 ((typed (logs 0) (Asked inquiry.Allocated None (Name 0))) ∷ [])) no_stmt)))))))

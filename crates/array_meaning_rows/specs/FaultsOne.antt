@@ -7,7 +7,7 @@ use Rattle.f95_unit.specs.declared.operation.Elemental.TheVariants as elemental
 use Rattle.f95_unit.specs.declared.unit.DeclaredType.TheVariants as declared
 use Rattle.f95_unit.specs.declared.unit.Length.TheVariants as long
 use Rattle.f95_unit.specs.declared.unit.Role.TheVariants as role
-use Rattle.f95_unit.specs.Plain.{typed, Named, Brackets, Unary, Binary, Constructor, Elementwise, at, Whole, Subscripted, no_subscript, subscript, One, Vector, Spans, Absent, Given, AllOf, BytesOf, no_item, value, no_argument, argument, Assigns, Print, Do, no_stmt, stmt, Scalars, Explicit, Program}
+use Rattle.f95_unit.specs.Plain.{typed, Named, Brackets, Unary, Binary, Constructor, Elementwise, at, Whole, Subscripted, no_subscript, subscript, One, Vector, SubscriptTriplet, Absent, Given, AllOf, BytesOf, no_item, value, no_argument, argument, Assigns, Print, Do, no_stmt, stmt, Scalars, Explicit, Program}
 use Rattle.array_meaning.specs.Build.{ints, texts, some_texts, int, target, assign, span, entity, procedure, program, num, chars, faulted, Comes}
 
 --     program p
@@ -114,7 +114,8 @@ shapes_differ = program
     role.Own None ∷ [])
     None
     (stmt (Assigns (assign 3 (target (ints 0) (at 1 Whole AllOf)) (int 2))) (stmt (Assigns (assign 4 (target (ints 1) (at 0
-    Whole AllOf)) (int 1))) (stmt (Assigns (assign 5 (target (ints 1) (at 0 (Subscripted (subscript (Spans (Given (int 1))
+    Whole AllOf)) (int 1))) (stmt (Assigns (assign 5 (target (ints 1) (at 0 (Subscripted (subscript (SubscriptTriplet (Given (int
+    1))
     (Given (typed (ints 0) (Named (at 1 Whole AllOf)))) Absent) no_subscript)) AllOf)) (typed (ints 1) (Named (at 0 Whole
     AllOf))))) no_stmt))))
     ([])
@@ -135,7 +136,7 @@ stride_of_zero = program
     role.Own None ∷ [])
     None
     (stmt (Assigns (assign 3 (target (ints 1) (at 0 Whole AllOf)) (int 1))) (stmt (Print 4 ((typed (ints 1) (Named (at 0
-    (Subscripted (subscript (Spans (Given (int 1)) (Given (int 3)) (Given (typed (ints 0) (Named (at 1 Whole AllOf)))))
+    (Subscripted (subscript (SubscriptTriplet (Given (int 1)) (Given (int 3)) (Given (typed (ints 0) (Named (at 1 Whole AllOf)))))
     no_subscript)) AllOf))) ∷ [])) no_stmt)))
     ([])
 

@@ -8,7 +8,7 @@ use Rattle.f95_unit.specs.declared.unit.DeclaredType.TheVariants as declared
 use Rattle.f95_unit.specs.declared.unit.Length.TheVariants as long
 use Rattle.f95_unit.specs.declared.unit.Role.TheVariants as role
 use Rattle.f95_unit.specs.declared.unit.Intent.TheVariants as intent
-use Rattle.f95_unit.specs.Plain.{typed, Named, Binary, Elementwise, Reduced, Called, at, Whole, Subscripted, no_subscript, subscript, One, Spans, Absent, Given, AllOf, BytesOf, no_argument, argument, call, masked, no_masked, assigning, no_other, Assigns, Masks, Print, no_stmt, stmt, Scalars, Explicit, Program}
+use Rattle.f95_unit.specs.Plain.{typed, Named, Binary, Elementwise, Reduced, Called, at, Whole, Subscripted, no_subscript, subscript, One, SubscriptTriplet, Absent, Given, AllOf, BytesOf, no_argument, argument, call, masked, no_masked, assigning, no_other, Assigns, Masks, Print, no_stmt, stmt, Scalars, Explicit, Program}
 use Rattle.array_meaning.specs.Build.{ints, logs, some_texts, int, target, assign, span, entity, procedure, program, num, ended, faulted, Comes}
 
 --     program p
@@ -25,10 +25,11 @@ matrices_differ = program
     Scalars role.Own None ∷ [])
     None
     (stmt (Assigns (assign 3 (target (ints 0) (at 2 Whole AllOf)) (int 2))) (stmt (Print 4 ((typed (ints 2) (Reduced
-    reduction.Matmul None (argument 0 (typed (ints 2) (Named (at 0 (Subscripted (subscript (Spans Absent Absent Absent)
-    (subscript (Spans (Given (int 1)) (Given (typed (ints 0) (Named (at 2 Whole AllOf)))) Absent) no_subscript))) AllOf)))
-    (argument 1 (typed (ints 2) (Named (at 1 (Subscripted (subscript (Spans (Given (int 1)) (Given (int 1)) Absent)
-    (subscript (Spans Absent Absent Absent) no_subscript))) AllOf))) no_argument)))) ∷ [])) no_stmt)))
+    reduction.Matmul None (argument 0 (typed (ints 2) (Named (at 0 (Subscripted (subscript (SubscriptTriplet Absent Absent Absent)
+    (subscript (SubscriptTriplet (Given (int 1)) (Given (typed (ints 0) (Named (at 2 Whole AllOf)))) Absent) no_subscript)))
+    AllOf)))
+    (argument 1 (typed (ints 2) (Named (at 1 (Subscripted (subscript (SubscriptTriplet (Given (int 1)) (Given (int 1)) Absent)
+    (subscript (SubscriptTriplet Absent Absent Absent) no_subscript))) AllOf))) no_argument)))) ∷ [])) no_stmt)))
     ([])
 
 abbrev pub MatricesDiffer : Type 0
@@ -154,7 +155,8 @@ subscripts_before_stride = program
     declared.Integer (Explicit (span Absent (int 2) ∷ [])) role.Own None ∷ entity 2 declared.Integer Scalars role.Own None
     ∷ [])
     None
-    (stmt (Print 3 ((typed (ints 1) (Named (at 0 (Subscripted (subscript (Spans (Given (int 1)) (Given (int 2)) (Given (typed
+    (stmt (Print 3 ((typed (ints 1) (Named (at 0 (Subscripted (subscript (SubscriptTriplet (Given (int 1)) (Given (int 2)) (Given
+    (typed
     (ints 0) (Named (at 2 Whole AllOf))))) (subscript (One (typed (ints 0) (Named (at 1 (Subscripted (subscript (One (int
     9)) no_subscript)) AllOf)))) no_subscript))) AllOf))) ∷ [])) no_stmt))
     ([])
@@ -175,7 +177,8 @@ substring_before_stride = program
     declared.Integer (Explicit (span Absent (int 2) ∷ [])) role.Own None ∷ entity 3 declared.Integer Scalars role.Own None
     ∷ [])
     None
-    (stmt (Print 4 ((typed (some_texts 1) (Named (at 0 (Subscripted (subscript (Spans (Given (int 1)) (Given (int 2)) (Given
+    (stmt (Print 4 ((typed (some_texts 1) (Named (at 0 (Subscripted (subscript (SubscriptTriplet (Given (int 1)) (Given (int 2))
+    (Given
     (typed (ints 0) (Named (at 2 Whole AllOf))))) no_subscript)) (BytesOf (Given (typed (ints 0) (Named (at 1 (Subscripted
     (subscript (One (int 9)) no_subscript)) AllOf)))) Absent)))) ∷ [])) no_stmt))
     ([])
@@ -194,7 +197,7 @@ stride_before_bounds = program
     (entity 2 declared.Integer (Explicit (span Absent (int 3) ∷ [])) role.Own None ∷ entity 2 declared.Integer Scalars
     role.Own None ∷ [])
     None
-    (stmt (Print 3 ((typed (ints 1) (Named (at 0 (Subscripted (subscript (Spans (Given (int 9)) (Given (int 12)) (Given
+    (stmt (Print 3 ((typed (ints 1) (Named (at 0 (Subscripted (subscript (SubscriptTriplet (Given (int 9)) (Given (int 12)) (Given
     (typed (ints 0) (Named (at 1 Whole AllOf))))) no_subscript)) AllOf))) ∷ [])) no_stmt))
     ([])
 

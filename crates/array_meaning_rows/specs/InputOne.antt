@@ -5,7 +5,7 @@ use Rattle.f95_unit.specs.declared.operation.UnaryOp.TheVariants as unary
 use Rattle.f95_unit.specs.declared.operation.Reduction.TheVariants as reduction
 use Rattle.f95_unit.specs.declared.unit.DeclaredType.TheVariants as declared
 use Rattle.f95_unit.specs.declared.unit.Role.TheVariants as role
-use Rattle.f95_unit.specs.Plain.{typed, Named, Unary, Constructor, Reduced, at, Whole, Subscripted, no_subscript, subscript, One, Vector, Spans, Absent, Given, AllOf, no_item, value, no_argument, argument, Assigns, Allocate, Print, Read, no_stmt, stmt, Scalars, Explicit, Deferred, Program}
+use Rattle.f95_unit.specs.Plain.{typed, Named, Unary, Constructor, Reduced, at, Whole, Subscripted, no_subscript, subscript, One, Vector, SubscriptTriplet, Absent, Given, AllOf, no_item, value, no_argument, argument, Assigns, Allocate, Print, Read, no_stmt, stmt, Scalars, Explicit, Deferred, Program}
 use Rattle.array_meaning.specs.Build.{ints, int, text, target, assign, span, allocation, entity, procedure, program, num, neg, chars, ended, faulted, Comes}
 
 --     program p; integer :: n; integer, allocatable :: a(:); read *, n; allocate(a(n)); read *, a; print *, a(n:1:-1), sum(a); end
@@ -17,7 +17,8 @@ read_and_print = program
     None
     (stmt (Read 1 ((target (ints 0) (at 0 Whole AllOf)) ∷ [])) (stmt (Allocate 1 (allocation 1 (span Absent (typed (ints 0)
     (Named (at 0 Whole AllOf))) ∷ []) ∷ [])) (stmt (Read 1 ((target (ints 1) (at 1 Whole AllOf)) ∷ [])) (stmt (Print 1
-    ((typed (ints 1) (Named (at 1 (Subscripted (subscript (Spans (Given (typed (ints 0) (Named (at 0 Whole AllOf)))) (Given
+    ((typed (ints 1) (Named (at 1 (Subscripted (subscript (SubscriptTriplet (Given (typed (ints 0) (Named (at 0 Whole AllOf))))
+    (Given
     (int 1)) (Given (typed (ints 0) (Unary unary.Minus (int 1))))) no_subscript)) AllOf))) ∷ (typed (ints 0) (Reduced
     reduction.Sum None (argument 0 (typed (ints 1) (Named (at 1 Whole AllOf))) no_argument))) ∷ [])) no_stmt)))))
     ([])
@@ -106,7 +107,7 @@ record_of_nothing = program
     (procedure 1 false false false
     (entity 1 declared.Integer (Explicit (span Absent (int 2) ∷ [])) role.Own None ∷ [])
     None
-    (stmt (Read 1 ((target (ints 1) (at 0 (Subscripted (subscript (Spans (Given (int 2)) (Given (int 1)) Absent)
+    (stmt (Read 1 ((target (ints 1) (at 0 (Subscripted (subscript (SubscriptTriplet (Given (int 2)) (Given (int 1)) Absent)
     no_subscript)) AllOf)) ∷ [])) (stmt (Read 1 ((target (ints 0) (at 0 (Subscripted (subscript (One (int 1))
     no_subscript)) AllOf)) ∷ [])) (stmt (Print 1 ((typed (ints 0) (Named (at 0 (Subscripted (subscript (One (int 1))
     no_subscript)) AllOf))) ∷ [])) no_stmt))))

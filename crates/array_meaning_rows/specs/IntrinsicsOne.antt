@@ -9,7 +9,7 @@ use Rattle.f95_unit.specs.declared.operation.Rearranging.TheVariants as rearrang
 use Rattle.f95_unit.specs.declared.unit.DeclaredType.TheVariants as declared
 use Rattle.f95_unit.specs.declared.unit.Length.TheVariants as long
 use Rattle.f95_unit.specs.declared.unit.Role.TheVariants as role
-use Rattle.f95_unit.specs.Plain.{typed, Named, Unary, Binary, Constructor, Elementwise, Trim, Asked, Reduced, Rearranged, at, Whole, Subscripted, no_subscript, subscript, Spans, Absent, Given, AllOf, no_item, value, no_argument, argument, Name, Of, Assigns, Print, no_stmt, stmt, Scalars, Explicit, Program}
+use Rattle.f95_unit.specs.Plain.{typed, Named, Unary, Binary, Constructor, Elementwise, Trim, Asked, Reduced, Rearranged, at, Whole, Subscripted, no_subscript, subscript, SubscriptTriplet, Absent, Given, AllOf, no_item, value, no_argument, argument, Name, Of, Assigns, Print, no_stmt, stmt, Scalars, Explicit, Program}
 use Rattle.array_meaning.specs.Build.{ints, logs, texts, some_texts, int, log, text, target, assign, span, entity, procedure, program, num, neg, chars, truth, ended, Comes}
 
 --     program p; print *, abs(-3), mod(7,-3), modulo(7,-3), modulo(-7,3), sign(5,-2), sign(-5,0), max(3,9,4), min(3,-9,4); end
@@ -118,7 +118,8 @@ inquiries = program
     (stmt (Print 4 ((typed (ints 0) (Asked inquiry.Size None (Name 0))) ∷ (typed (ints 0) (Asked inquiry.Size (Some 1) (Name
     0))) ∷ (typed (ints 1) (Asked inquiry.Shape None (Name 0))) ∷ (typed (ints 1) (Asked inquiry.Lbound None (Name 0))) ∷
     (typed (ints 1) (Asked inquiry.Ubound None (Name 0))) ∷ (typed (ints 0) (Asked inquiry.Lbound (Some 1) (Of (typed (ints
-    2) (Named (at 0 (Subscripted (subscript (Spans (Given (int 1)) (Given (int 2)) Absent) (subscript (Spans Absent Absent
+    2) (Named (at 0 (Subscripted (subscript (SubscriptTriplet (Given (int 1)) (Given (int 2)) Absent) (subscript (SubscriptTriplet
+    Absent Absent
     Absent) no_subscript))) AllOf)))))) ∷ (typed (ints 0) (Asked inquiry.Ubound (Some 1) (Of (typed (ints 2) (Binary
     binary.Add (typed (ints 2) (Named (at 0 Whole AllOf))) (int 1)))))) ∷ [])) (stmt (Print 5 ((typed (ints 0) (Asked
     inquiry.Len None (Name 1))) ∷ (typed (ints 0) (Asked inquiry.Size None (Of (typed (texts 6 1) (Binary binary.Concat

@@ -8,7 +8,7 @@ use Rattle.f95_unit.specs.declared.operation.Reduction.TheVariants as reduction
 use Rattle.f95_unit.specs.declared.operation.Rearranging.TheVariants as rearranging
 use Rattle.f95_unit.specs.declared.unit.DeclaredType.TheVariants as declared
 use Rattle.f95_unit.specs.declared.unit.Role.TheVariants as role
-use Rattle.f95_unit.specs.Plain.{typed, Named, Unary, Binary, Constructor, Asked, Reduced, Rearranged, at, Whole, Subscripted, no_subscript, subscript, One, Spans, Absent, Given, AllOf, no_item, value, no_argument, argument, Of, Assigns, Print, no_stmt, stmt, Scalars, Explicit, Program}
+use Rattle.f95_unit.specs.Plain.{typed, Named, Unary, Binary, Constructor, Asked, Reduced, Rearranged, at, Whole, Subscripted, no_subscript, subscript, One, SubscriptTriplet, Absent, Given, AllOf, no_item, value, no_argument, argument, Of, Assigns, Print, no_stmt, stmt, Scalars, Explicit, Program}
 use Rattle.array_meaning.specs.Build.{ints, logs, int, log, target, assign, span, entity, procedure, program, num, truth, ended, faulted, Comes}
 
 --     program p; integer :: n; n = -1; print *, reshape((/1,2/), (/n/)); end
@@ -47,7 +47,7 @@ logical_arrays = program
     None (argument 0 (typed (logs 2) (Named (at 0 Whole AllOf))) (argument 1 (int 1) no_argument)))) ∷ (typed (logs 2)
     (Reduced reduction.Matmul None (argument 0 (typed (logs 2) (Named (at 0 Whole AllOf))) (argument 1 (typed (logs 2)
     (Named (at 0 Whole AllOf))) no_argument)))) ∷ (typed (logs 1) (Rearranged rearranging.Eoshift None (argument 0 (typed
-    (logs 1) (Named (at 0 (Subscripted (subscript (One (int 1)) (subscript (Spans Absent Absent Absent) no_subscript)))
+    (logs 1) (Named (at 0 (Subscripted (subscript (One (int 1)) (subscript (SubscriptTriplet Absent Absent Absent) no_subscript)))
     AllOf))) (argument 1 (int 1) no_argument)))) ∷ (typed (logs 1) (Rearranged rearranging.Pack None (argument 0 (typed
     (logs 2) (Named (at 0 Whole AllOf))) (argument 1 (typed (logs 2) (Named (at 0 Whole AllOf))) no_argument)))) ∷ (typed
     (logs 1) (Reduced reduction.All (Some 1) (argument 0 (typed (logs 2) (Named (at 0 Whole AllOf))) no_argument))) ∷ []))
@@ -59,7 +59,8 @@ LogicalArrays = Comes logical_arrays ([]) 100 (ended ((num 4 ∷ truth false ∷
     true ∷ truth false ∷ truth false ∷ truth true ∷ truth false ∷ truth false ∷ truth true ∷ truth true ∷ truth false ∷ truth
     false ∷ []) ∷ []))
 
---     program p; integer :: a(2,3), n; n = 0; a = 0; print *, matmul(a(:,1:n), a(1:n,:)), sum(a(1:n,:), 1), size(spread(a, 1, -2)); end
+--     program p; integer :: a(2,3), n; n = 0; a = 0; print *, matmul(a(:,1:n), a(1:n,:)), sum(a(1:n,:), 1), size(spread(a, 1,
+-- -2)); end
 unfoldable pub empty_matrices : Program
 empty_matrices = program
     ([])
@@ -69,12 +70,14 @@ empty_matrices = program
     None
     (stmt (Assigns (assign 1 (target (ints 0) (at 1 Whole AllOf)) (int 0))) (stmt (Assigns (assign 1 (target (ints 2) (at 0
     Whole AllOf)) (int 0))) (stmt (Print 1 ((typed (ints 2) (Reduced reduction.Matmul None (argument 0 (typed (ints 2)
-    (Named (at 0 (Subscripted (subscript (Spans Absent Absent Absent) (subscript (Spans (Given (int 1)) (Given (typed (ints
+    (Named (at 0 (Subscripted (subscript (SubscriptTriplet Absent Absent Absent) (subscript (SubscriptTriplet (Given (int 1))
+    (Given (typed (ints
     0) (Named (at 1 Whole AllOf)))) Absent) no_subscript))) AllOf))) (argument 1 (typed (ints 2) (Named (at 0 (Subscripted
-    (subscript (Spans (Given (int 1)) (Given (typed (ints 0) (Named (at 1 Whole AllOf)))) Absent) (subscript (Spans Absent
+    (subscript (SubscriptTriplet (Given (int 1)) (Given (typed (ints 0) (Named (at 1 Whole AllOf)))) Absent) (subscript
+    (SubscriptTriplet Absent
     Absent Absent) no_subscript))) AllOf))) no_argument)))) ∷ (typed (ints 1) (Reduced reduction.Sum (Some 1) (argument 0
-    (typed (ints 2) (Named (at 0 (Subscripted (subscript (Spans (Given (int 1)) (Given (typed (ints 0) (Named (at 1 Whole
-    AllOf)))) Absent) (subscript (Spans Absent Absent Absent) no_subscript))) AllOf))) no_argument))) ∷ (typed (ints 0)
+    (typed (ints 2) (Named (at 0 (Subscripted (subscript (SubscriptTriplet (Given (int 1)) (Given (typed (ints 0) (Named (at 1 Whole
+    AllOf)))) Absent) (subscript (SubscriptTriplet Absent Absent Absent) no_subscript))) AllOf))) no_argument))) ∷ (typed (ints 0)
     (Asked inquiry.Size None (Of (typed (ints 3) (Rearranged rearranging.Spread (Some 1) (argument 0 (typed (ints 2) (Named
     (at 0 Whole AllOf))) (argument 2 (typed (ints 0) (Unary unary.Minus (int 2))) no_argument))))))) ∷ [])) no_stmt))))
     ([])

@@ -9,7 +9,7 @@ use Rattle.f95_unit.specs.declared.operation.Reduction.TheVariants as reduction
 use Rattle.f95_unit.specs.declared.operation.Rearranging.TheVariants as rearranging
 use Rattle.f95_unit.specs.declared.unit.DeclaredType.TheVariants as declared
 use Rattle.f95_unit.specs.declared.unit.Role.TheVariants as role
-use Rattle.f95_unit.specs.Plain.{typed, Named, Brackets, Unary, Binary, Constructor, Elementwise, Asked, Reduced, Rearranged, at, Whole, Subscripted, no_subscript, subscript, Spans, Absent, Given, AllOf, no_item, value, loop, no_argument, argument, Of, Assigns, Print, no_stmt, stmt, Scalars, Explicit, Program}
+use Rattle.f95_unit.specs.Plain.{typed, Named, Brackets, Unary, Binary, Constructor, Elementwise, Asked, Reduced, Rearranged, at, Whole, Subscripted, no_subscript, subscript, SubscriptTriplet, Absent, Given, AllOf, no_item, value, loop, no_argument, argument, Of, Assigns, Print, no_stmt, stmt, Scalars, Explicit, Program}
 use Rattle.array_meaning.specs.Build.{ints, logs, texts, int, log, text, index_at, target, assign, span, entity, procedure, program, num, neg, chars, ended, faulted, Comes}
 
 --     program p
@@ -164,7 +164,8 @@ shape_asks_for_conformance = program
     None
     (stmt (Assigns (assign 3 (target (ints 0) (at 1 Whole AllOf)) (int 2))) (stmt (Print 4 ((typed (ints 0) (Asked
     inquiry.Size None (Of (typed (ints 1) (Binary binary.Add (typed (ints 1) (Named (at 0 Whole AllOf))) (typed (ints 1)
-    (Named (at 0 (Subscripted (subscript (Spans (Given (int 1)) (Given (typed (ints 0) (Named (at 1 Whole AllOf)))) Absent)
+    (Named (at 0 (Subscripted (subscript (SubscriptTriplet (Given (int 1)) (Given (typed (ints 0) (Named (at 1 Whole AllOf))))
+    Absent)
     no_subscript)) AllOf)))))))) ∷ [])) no_stmt)))
     ([])
 
@@ -201,9 +202,10 @@ unpack_needs_elements = program
     None
     (stmt (Assigns (assign 3 (target (ints 0) (at 1 Whole AllOf)) (int 2))) (stmt (Print 4 ((typed (ints 1) (Rearranged
     rearranging.Unpack None (argument 0 (typed (ints 1) (Constructor (value (int 1) (value (int 2) no_item)))) (argument 1
-    (typed (logs 1) (Binary binary.Equal (typed (ints 1) (Named (at 0 (Subscripted (subscript (Spans (Given (int 1)) (Given
+    (typed (logs 1) (Binary binary.Equal (typed (ints 1) (Named (at 0 (Subscripted (subscript (SubscriptTriplet (Given (int 1))
+    (Given
     (typed (ints 0) (Named (at 1 Whole AllOf)))) Absent) no_subscript)) AllOf))) (int 0))) (argument 2 (typed (ints 1)
-    (Named (at 0 (Subscripted (subscript (Spans (Given (int 2)) (Given (int 3)) Absent) no_subscript)) AllOf)))
+    (Named (at 0 (Subscripted (subscript (SubscriptTriplet (Given (int 2)) (Given (int 3)) Absent) no_subscript)) AllOf)))
     no_argument))))) ∷ [])) (stmt (Print 5 ((typed (ints 1) (Rearranged rearranging.Unpack None (argument 0 (typed (ints 1)
     (Constructor (value (int 1) (value (int 2) no_item)))) (argument 1 (typed (logs 1) (Binary binary.Equal (typed (ints 1)
     (Named (at 0 Whole AllOf))) (int 0))) (argument 2 (typed (ints 1) (Named (at 0 Whole AllOf))) no_argument))))) ∷ []))

@@ -8,7 +8,7 @@ use Rattle.f95_unit.specs.declared.unit.DeclaredType.TheVariants as declared
 use Rattle.f95_unit.specs.declared.unit.Length.TheVariants as long
 use Rattle.f95_unit.specs.declared.unit.Role.TheVariants as role
 use Rattle.f95_unit.specs.declared.unit.Intent.TheVariants as intent
-use Rattle.f95_unit.specs.Plain.{typed, Named, Unary, Binary, Constructor, Asked, at, Whole, Subscripted, no_subscript, subscript, One, Spans, Absent, Given, AllOf, BytesOf, no_item, value, loop, no_argument, argument, Name, Of, call, Assigns, Calls, Print, Do, no_stmt, stmt, Scalars, Explicit, Assumed, Program}
+use Rattle.f95_unit.specs.Plain.{typed, Named, Unary, Binary, Constructor, Asked, at, Whole, Subscripted, no_subscript, subscript, One, SubscriptTriplet, Absent, Given, AllOf, BytesOf, no_item, value, loop, no_argument, argument, Name, Of, call, Assigns, Calls, Print, Do, no_stmt, stmt, Scalars, Explicit, Assumed, Program}
 use Rattle.array_meaning.specs.Build.{ints, texts, int, index_at, target, assign, span, entity, procedure, program, num, neg, ended, faulted, Comes}
 
 --     program p
@@ -60,7 +60,8 @@ great_stride = program
     (procedure 1 false false false
     (entity 1 declared.Integer (Explicit (span Absent (int 3) ∷ [])) role.Own None ∷ [])
     None
-    (stmt (Print 1 ((typed (ints 0) (Asked inquiry.Size None (Of (typed (ints 1) (Named (at 0 (Subscripted (subscript (Spans
+    (stmt (Print 1 ((typed (ints 0) (Asked inquiry.Size None (Of (typed (ints 1) (Named (at 0 (Subscripted (subscript
+    (SubscriptTriplet
     (Given (int 1)) (Given (int 3)) (Given (int 2147483647))) no_subscript)) AllOf)))))) ∷ [])) no_stmt))
     ([])
 
@@ -94,7 +95,7 @@ greatest_bounds = program
     (procedure 1 false false false
     (entity 1 declared.Integer (Explicit (span (Given (int 2147483646)) (int 2147483647) ∷ [])) role.Own None ∷ [])
     None
-    (stmt (Assigns (assign 1 (target (ints 1) (at 0 (Subscripted (subscript (Spans (Given (int 2147483646)) (Given (int
+    (stmt (Assigns (assign 1 (target (ints 1) (at 0 (Subscripted (subscript (SubscriptTriplet (Given (int 2147483646)) (Given (int
     2147483647)) Absent) no_subscript)) AllOf)) (int 5))) (stmt (Print 1 ((typed (ints 1) (Named (at 0 Whole AllOf))) ∷
     (typed (ints 1) (Asked inquiry.Ubound None (Name 0))) ∷ [])) no_stmt)))
     ([])
@@ -123,7 +124,8 @@ substring_of_no_element = program
     (procedure 1 false false false
     (entity 1 (declared.Character (long.Fixed 3)) (Explicit (span Absent (int 2) ∷ [])) role.Own None ∷ [])
     None
-    (stmt (Print 1 ((typed (texts 1 1) (Named (at 0 (Subscripted (subscript (Spans (Given (int 2)) (Given (int 1)) Absent)
+    (stmt (Print 1 ((typed (texts 1 1) (Named (at 0 (Subscripted (subscript (SubscriptTriplet (Given (int 2)) (Given (int 1))
+    Absent)
     no_subscript)) (BytesOf (Given (int 9)) (Given (int 9)))))) ∷ [])) no_stmt))
     ([])
 

@@ -6,7 +6,7 @@ use Rattle.f95_unit.specs.declared.operation.BinaryOp.TheVariants as binary
 use Rattle.f95_unit.specs.declared.operation.Reduction.TheVariants as reduction
 use Rattle.f95_unit.specs.declared.unit.DeclaredType.TheVariants as declared
 use Rattle.f95_unit.specs.declared.unit.Role.TheVariants as role
-use Rattle.f95_unit.specs.Plain.{typed, Named, Unary, Binary, Constructor, Reduced, at, Whole, Subscripted, no_subscript, subscript, One, Vector, Spans, Absent, Given, AllOf, no_item, value, no_argument, argument, masked, no_masked, assigning, narrowed, no_other, elsewhere, Assigns, Masks, ForAll, Print, no_stmt, stmt, Scalars, Explicit, Program}
+use Rattle.f95_unit.specs.Plain.{typed, Named, Unary, Binary, Constructor, Reduced, at, Whole, Subscripted, no_subscript, subscript, One, Vector, SubscriptTriplet, Absent, Given, AllOf, no_item, value, no_argument, argument, masked, no_masked, assigning, narrowed, no_other, elsewhere, Assigns, Masks, ForAll, Print, no_stmt, stmt, Scalars, Explicit, Program}
 use Rattle.array_meaning.specs.Build.{ints, logs, int, log, index_at, target, assign, triplet, forall_over, span, entity, procedure, program, num, neg, ended, faulted, Comes}
 
 --     program p; integer :: a(3); a = (/1,-2,3/); where (a > 0); a = -a; elsewhere; a = 10; end where; print *, a; end
@@ -153,8 +153,8 @@ forall_two_assignments = program
     (Binary binary.Add (typed (ints 0) (Binary binary.Multiply (int 10) (index_at 0))) (index_at 1))) ∷ []))) (stmt (ForAll
     (forall_over 8 (triplet (int 1) (int 3) Absent ∷ []) None (assign 9 (target (ints 0) (at 1 (Subscripted (subscript (One
     (index_at 0)) no_subscript)) AllOf)) (typed (ints 0) (Reduced reduction.Sum None (argument 0 (typed (ints 1) (Named (at
-    0 (Subscripted (subscript (One (index_at 0)) (subscript (Spans Absent Absent Absent) no_subscript))) AllOf)))
-    no_argument))) ∷ assign 10 (target (ints 1) (at 0 (Subscripted (subscript (One (index_at 0)) (subscript (Spans Absent
+    0 (Subscripted (subscript (One (index_at 0)) (subscript (SubscriptTriplet Absent Absent Absent) no_subscript))) AllOf)))
+    no_argument))) ∷ assign 10 (target (ints 1) (at 0 (Subscripted (subscript (One (index_at 0)) (subscript (SubscriptTriplet Absent
     Absent Absent) no_subscript))) AllOf)) (typed (ints 0) (Named (at 1 (Subscripted (subscript (One (typed (ints 0)
     (Binary binary.Subtract (int 4) (index_at 0)))) no_subscript)) AllOf))) ∷ []))) (stmt (Print 12 ((typed (ints 1) (Named
     (at 1 Whole AllOf))) ∷ [])) (stmt (Print 13 ((typed (ints 2) (Named (at 0 Whole AllOf))) ∷ [])) no_stmt)))))))
@@ -205,7 +205,7 @@ masks_of_another_shape = program
     (stmt (Assigns (assign 3 (target (ints 0) (at 1 Whole AllOf)) (int 2))) (stmt (Masks (masked 4 (typed (logs 1) (Binary
     binary.Equal (typed (ints 1) (Named (at 0 Whole AllOf))) (int 0))) (assigning (assign 5 (target (ints 1) (at 0 Whole
     AllOf)) (int 1)) no_masked) (elsewhere 6 (Some (typed (logs 1) (Binary binary.Equal (typed (ints 1) (Named (at 0
-    (Subscripted (subscript (Spans (Given (int 1)) (Given (typed (ints 0) (Named (at 1 Whole AllOf)))) Absent)
+    (Subscripted (subscript (SubscriptTriplet (Given (int 1)) (Given (typed (ints 0) (Named (at 1 Whole AllOf)))) Absent)
     no_subscript)) AllOf))) (int 0)))) (assigning (assign 7 (target (ints 1) (at 0 Whole AllOf)) (int 2)) no_masked)
     no_other))) no_stmt)))
     ([])

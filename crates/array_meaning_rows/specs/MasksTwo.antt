@@ -4,7 +4,7 @@ use Rattle.a95_base.specs.declared.fault.FaultKind.TheVariants as fault
 use Rattle.f95_unit.specs.declared.operation.BinaryOp.TheVariants as binary
 use Rattle.f95_unit.specs.declared.unit.DeclaredType.TheVariants as declared
 use Rattle.f95_unit.specs.declared.unit.Role.TheVariants as role
-use Rattle.f95_unit.specs.Plain.{typed, Named, Binary, Constructor, at, Whole, Subscripted, no_subscript, subscript, One, Spans, Absent, Given, AllOf, no_item, value, loop, masked, no_masked, assigning, narrowed, no_other, elsewhere, Assigns, Masks, ForAll, Print, no_stmt, stmt, Scalars, Explicit, Program}
+use Rattle.f95_unit.specs.Plain.{typed, Named, Binary, Constructor, at, Whole, Subscripted, no_subscript, subscript, One, SubscriptTriplet, Absent, Given, AllOf, no_item, value, loop, masked, no_masked, assigning, narrowed, no_other, elsewhere, Assigns, Masks, ForAll, Print, no_stmt, stmt, Scalars, Explicit, Program}
 use Rattle.array_meaning.specs.Build.{ints, logs, int, index_at, target, assign, triplet, forall_over, span, entity, procedure, program, num, ended, faulted, Comes}
 
 --     program p
@@ -81,7 +81,7 @@ forall_section = program
     None
     (stmt (Assigns (assign 3 (target (ints 2) (at 0 Whole AllOf)) (int 0))) (stmt (ForAll (forall_over 4 (triplet (int 1)
     (int 3) Absent ∷ []) (Some (typed (logs 0) (Binary binary.NotEqual (index_at 0) (int 2)))) (assign 4 (target (ints 1)
-    (at 0 (Subscripted (subscript (One (index_at 0)) (subscript (Spans (Given (int 2)) (Given (int 3)) Absent)
+    (at 0 (Subscripted (subscript (One (index_at 0)) (subscript (SubscriptTriplet (Given (int 2)) (Given (int 3)) Absent)
     no_subscript))) AllOf)) (typed (ints 1) (Constructor (value (index_at 0) (value (typed (ints 0) (Binary binary.Multiply
     (int 10) (index_at 0))) no_item)))) ∷ []))) (stmt (Print 5 ((typed (ints 2) (Named (at 0 Whole AllOf))) ∷ []))
     no_stmt))))

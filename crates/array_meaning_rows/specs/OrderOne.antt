@@ -9,7 +9,7 @@ use Rattle.f95_unit.specs.declared.unit.DeclaredType.TheVariants as declared
 use Rattle.f95_unit.specs.declared.unit.Length.TheVariants as long
 use Rattle.f95_unit.specs.declared.unit.Role.TheVariants as role
 use Rattle.f95_unit.specs.declared.unit.Intent.TheVariants as intent
-use Rattle.f95_unit.specs.Plain.{typed, Named, Binary, Constructor, Elementwise, Reduced, Rearranged, at, Whole, Subscripted, no_subscript, subscript, One, Spans, Absent, Given, AllOf, no_item, value, no_argument, argument, call, Assigns, ForAll, Calls, Print, no_stmt, stmt, Scalars, Explicit, Assumed, Program}
+use Rattle.f95_unit.specs.Plain.{typed, Named, Binary, Constructor, Elementwise, Reduced, Rearranged, at, Whole, Subscripted, no_subscript, subscript, One, SubscriptTriplet, Absent, Given, AllOf, no_item, value, no_argument, argument, call, Assigns, ForAll, Calls, Print, no_stmt, stmt, Scalars, Explicit, Assumed, Program}
 use Rattle.array_meaning.specs.Build.{ints, logs, texts, some_texts, int, index_at, target, assign, triplet, forall_over, span, entity, procedure, program, faulted, Comes}
 
 --     program p; integer :: a(3), n; a(4 + n) = mod(1, n); end
@@ -155,8 +155,9 @@ call_tested_before_its_turn = program
     None
     (stmt (Assigns (assign 3 (target (ints 1) (at 0 Whole AllOf)) (typed (ints 1) (Constructor (value (int 1) (value (int 2)
     (value (int 3) (value (int 4) (value (int 5) no_item))))))))) (stmt (Calls 4 (call 0 (argument 0 (typed (ints 1) (Named
-    (at 0 (Subscripted (subscript (Spans (Given (int 1)) (Given (int 3)) Absent) no_subscript)) AllOf))) (argument 1 (typed
-    (ints 1) (Named (at 0 (Subscripted (subscript (Spans (Given (int 3)) (Given (int 5)) Absent) no_subscript)) AllOf)))
+    (at 0 (Subscripted (subscript (SubscriptTriplet (Given (int 1)) (Given (int 3)) Absent) no_subscript)) AllOf))) (argument 1
+    (typed
+    (ints 1) (Named (at 0 (Subscripted (subscript (SubscriptTriplet (Given (int 3)) (Given (int 5)) Absent) no_subscript)) AllOf)))
     no_argument)))) (stmt (Print 5 ((typed (ints 1) (Named (at 0 Whole AllOf))) ∷ [])) no_stmt))))
     ((procedure 7 false false false
     (entity 8 declared.Integer (Assumed (Absent ∷ [])) (role.Dummy 0 intent.InOut) None ∷ entity 8 declared.Integer (Assumed

@@ -5,7 +5,7 @@ use Rattle.f95_unit.specs.declared.operation.BinaryOp.TheVariants as binary
 use Rattle.f95_unit.specs.declared.operation.Elemental.TheVariants as elemental
 use Rattle.f95_unit.specs.declared.unit.DeclaredType.TheVariants as declared
 use Rattle.f95_unit.specs.declared.unit.Role.TheVariants as role
-use Rattle.f95_unit.specs.Plain.{typed, Named, Binary, Constructor, Elementwise, at, Whole, Subscripted, no_subscript, subscript, One, Vector, Spans, Absent, Given, AllOf, no_item, value, no_argument, argument, masked, no_masked, assigning, narrowed, no_other, Assigns, Masks, ForAll, no_stmt, stmt, Scalars, Explicit, Program}
+use Rattle.f95_unit.specs.Plain.{typed, Named, Binary, Constructor, Elementwise, at, Whole, Subscripted, no_subscript, subscript, One, Vector, SubscriptTriplet, Absent, Given, AllOf, no_item, value, no_argument, argument, masked, no_masked, assigning, narrowed, no_other, Assigns, Masks, ForAll, no_stmt, stmt, Scalars, Explicit, Program}
 use Rattle.array_meaning.specs.Build.{ints, logs, int, target, assign, triplet, forall_over, span, entity, procedure, program, faulted, Comes}
 
 --     program p; integer :: a(3), n; n = 2; where (a(1:n) == 0) a = 1; end
@@ -17,7 +17,8 @@ mask_of_another_shape = program
     role.Own None ∷ [])
     None
     (stmt (Assigns (assign 1 (target (ints 0) (at 1 Whole AllOf)) (int 2))) (stmt (Masks (masked 1 (typed (logs 1) (Binary
-    binary.Equal (typed (ints 1) (Named (at 0 (Subscripted (subscript (Spans (Given (int 1)) (Given (typed (ints 0) (Named
+    binary.Equal (typed (ints 1) (Named (at 0 (Subscripted (subscript (SubscriptTriplet (Given (int 1)) (Given (typed (ints 0)
+    (Named
     (at 1 Whole AllOf)))) Absent) no_subscript)) AllOf))) (int 0))) (assigning (assign 1 (target (ints 1) (at 0 Whole
     AllOf)) (int 1)) no_masked) no_other)) no_stmt)))
     ([])
@@ -41,7 +42,8 @@ nested_mask_of_another_shape = program
     None
     (stmt (Assigns (assign 3 (target (ints 0) (at 1 Whole AllOf)) (int 2))) (stmt (Masks (masked 4 (typed (logs 1) (Binary
     binary.Equal (typed (ints 1) (Named (at 0 Whole AllOf))) (int 0))) (narrowed (masked 5 (typed (logs 1) (Binary
-    binary.Equal (typed (ints 1) (Named (at 0 (Subscripted (subscript (Spans (Given (int 1)) (Given (typed (ints 0) (Named
+    binary.Equal (typed (ints 1) (Named (at 0 (Subscripted (subscript (SubscriptTriplet (Given (int 1)) (Given (typed (ints 0)
+    (Named
     (at 1 Whole AllOf)))) Absent) no_subscript)) AllOf))) (int 0))) (assigning (assign 5 (target (ints 1) (at 0 Whole
     AllOf)) (int 1)) no_masked) no_other) no_masked) no_other)) no_stmt)))
     ([])
@@ -62,7 +64,8 @@ mask_shape_before_many_one = program
     role.Own None ∷ [])
     None
     (stmt (Assigns (assign 3 (target (ints 0) (at 1 Whole AllOf)) (int 2))) (stmt (Masks (masked 4 (typed (logs 1) (Binary
-    binary.Equal (typed (ints 1) (Named (at 0 (Subscripted (subscript (Spans (Given (int 1)) (Given (typed (ints 0) (Named
+    binary.Equal (typed (ints 1) (Named (at 0 (Subscripted (subscript (SubscriptTriplet (Given (int 1)) (Given (typed (ints 0)
+    (Named
     (at 1 Whole AllOf)))) Absent) no_subscript)) AllOf))) (int 0))) (assigning (assign 4 (target (ints 1) (at 0
     (Subscripted (subscript (Vector (typed (ints 1) (Constructor (value (int 1) (value (int 1) (value (int 2) no_item))))))
     no_subscript)) AllOf)) (int 1)) no_masked) no_other)) no_stmt)))

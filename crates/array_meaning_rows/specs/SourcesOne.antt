@@ -6,7 +6,7 @@ use Rattle.f95_unit.specs.declared.operation.Reduction.TheVariants as reduction
 use Rattle.f95_unit.specs.declared.unit.DeclaredType.TheVariants as declared
 use Rattle.f95_unit.specs.declared.unit.Length.TheVariants as long
 use Rattle.f95_unit.specs.declared.unit.Role.TheVariants as role
-use Rattle.f95_unit.specs.Plain.{typed, Named, Binary, Constructor, Reduced, at, Whole, Subscripted, no_subscript, subscript, One, Spans, Absent, Given, AllOf, BytesOf, no_item, value, no_argument, argument, masked, no_masked, assigning, narrowed, no_other, elsewhere, Assigns, Masks, ForAll, Print, Do, no_stmt, stmt, Scalars, Explicit, Program}
+use Rattle.f95_unit.specs.Plain.{typed, Named, Binary, Constructor, Reduced, at, Whole, Subscripted, no_subscript, subscript, One, SubscriptTriplet, Absent, Given, AllOf, BytesOf, no_item, value, no_argument, argument, masked, no_masked, assigning, narrowed, no_other, elsewhere, Assigns, Masks, ForAll, Print, Do, no_stmt, stmt, Scalars, Explicit, Program}
 use Rattle.array_meaning.specs.Build.{ints, logs, texts, int, text, index_at, target, assign, triplet, forall_over, span, entity, procedure, program, num, chars, truth, ended, faulted, Comes}
 
 --     program p; character(3) :: t; logical :: q; t = 'ab'; q = t == 'ab '; print *, q, t, 'c', t(2:1) // 'd'; end
@@ -52,8 +52,10 @@ section_past_the_end = program
     None
     (stmt (Assigns (assign 1 (target (ints 1) (at 0 Whole AllOf)) (typed (ints 1) (Constructor (value (int 1) (value (int 2)
     (value (int 3) no_item))))))) (stmt (Assigns (assign 1 (target (ints 0) (at 1 Whole AllOf)) (int 4))) (stmt (Assigns
-    (assign 1 (target (ints 1) (at 0 (Subscripted (subscript (Spans (Given (int 1)) (Given (int 2)) Absent) no_subscript))
-    AllOf)) (typed (ints 1) (Named (at 0 (Subscripted (subscript (Spans (Given (int 2)) (Given (typed (ints 0) (Named (at 1
+    (assign 1 (target (ints 1) (at 0 (Subscripted (subscript (SubscriptTriplet (Given (int 1)) (Given (int 2)) Absent)
+    no_subscript))
+    AllOf)) (typed (ints 1) (Named (at 0 (Subscripted (subscript (SubscriptTriplet (Given (int 2)) (Given (typed (ints 0) (Named
+    (at 1
     Whole AllOf)))) Absent) no_subscript)) AllOf))))) (stmt (Print 1 ((typed (ints 1) (Named (at 0 Whole AllOf))) ∷ []))
     no_stmt)))))
     ([])
@@ -71,8 +73,10 @@ section_too_long = program
     None
     (stmt (Assigns (assign 1 (target (ints 1) (at 0 Whole AllOf)) (typed (ints 1) (Constructor (value (int 1) (value (int 2)
     (value (int 3) no_item))))))) (stmt (Assigns (assign 1 (target (ints 0) (at 1 Whole AllOf)) (int 3))) (stmt (Assigns
-    (assign 1 (target (ints 1) (at 0 (Subscripted (subscript (Spans (Given (int 1)) (Given (int 2)) Absent) no_subscript))
-    AllOf)) (typed (ints 1) (Named (at 0 (Subscripted (subscript (Spans (Given (int 1)) (Given (typed (ints 0) (Named (at 1
+    (assign 1 (target (ints 1) (at 0 (Subscripted (subscript (SubscriptTriplet (Given (int 1)) (Given (int 2)) Absent)
+    no_subscript))
+    AllOf)) (typed (ints 1) (Named (at 0 (Subscripted (subscript (SubscriptTriplet (Given (int 1)) (Given (typed (ints 0) (Named
+    (at 1
     Whole AllOf)))) Absent) no_subscript)) AllOf))))) (stmt (Print 1 ((typed (ints 1) (Named (at 0 Whole AllOf))) ∷ []))
     no_stmt)))))
     ([])
@@ -90,8 +94,10 @@ section_without_stride = program
     None
     (stmt (Assigns (assign 1 (target (ints 1) (at 0 Whole AllOf)) (typed (ints 1) (Constructor (value (int 1) (value (int 2)
     (value (int 3) no_item))))))) (stmt (Assigns (assign 1 (target (ints 0) (at 1 Whole AllOf)) (int 0))) (stmt (Assigns
-    (assign 1 (target (ints 1) (at 0 (Subscripted (subscript (Spans (Given (int 1)) (Given (int 2)) Absent) no_subscript))
-    AllOf)) (typed (ints 1) (Named (at 0 (Subscripted (subscript (Spans (Given (int 1)) (Given (int 2)) (Given (typed (ints
+    (assign 1 (target (ints 1) (at 0 (Subscripted (subscript (SubscriptTriplet (Given (int 1)) (Given (int 2)) Absent)
+    no_subscript))
+    AllOf)) (typed (ints 1) (Named (at 0 (Subscripted (subscript (SubscriptTriplet (Given (int 1)) (Given (int 2)) (Given (typed
+    (ints
     0) (Named (at 1 Whole AllOf))))) no_subscript)) AllOf))))) (stmt (Print 1 ((typed (ints 1) (Named (at 0 Whole AllOf)))
     ∷ [])) no_stmt)))))
     ([])
@@ -180,9 +186,9 @@ matrix_and_vector = program
     (entity 2 declared.Integer (Explicit (span Absent (int 2) ∷ span Absent (int 2) ∷ [])) role.Own None ∷ entity 2
     declared.Integer (Explicit (span Absent (int 2) ∷ [])) role.Own None ∷ [])
     None
-    (stmt (Assigns (assign 3 (target (ints 1) (at 0 (Subscripted (subscript (One (int 1)) (subscript (Spans Absent Absent
+    (stmt (Assigns (assign 3 (target (ints 1) (at 0 (Subscripted (subscript (One (int 1)) (subscript (SubscriptTriplet Absent Absent
     Absent) no_subscript))) AllOf)) (typed (ints 1) (Constructor (value (int 1) (value (int 2) no_item)))))) (stmt (Assigns
-    (assign 4 (target (ints 1) (at 0 (Subscripted (subscript (One (int 2)) (subscript (Spans Absent Absent Absent)
+    (assign 4 (target (ints 1) (at 0 (Subscripted (subscript (One (int 2)) (subscript (SubscriptTriplet Absent Absent Absent)
     no_subscript))) AllOf)) (typed (ints 1) (Constructor (value (int 3) (value (int 4) no_item)))))) (stmt (Assigns (assign
     5 (target (ints 1) (at 1 Whole AllOf)) (typed (ints 1) (Constructor (value (int 5) (value (int 6) no_item)))))) (stmt
     (Print 6 ((typed (ints 1) (Reduced reduction.Matmul None (argument 0 (typed (ints 2) (Named (at 0 Whole AllOf)))

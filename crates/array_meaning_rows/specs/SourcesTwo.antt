@@ -8,7 +8,7 @@ use Rattle.f95_unit.specs.declared.operation.Rearranging.TheVariants as rearrang
 use Rattle.f95_unit.specs.declared.unit.DeclaredType.TheVariants as declared
 use Rattle.f95_unit.specs.declared.unit.Role.TheVariants as role
 use Rattle.f95_unit.specs.declared.unit.Intent.TheVariants as intent
-use Rattle.f95_unit.specs.Plain.{typed, Named, Unary, Binary, Constructor, Asked, Rearranged, at, Whole, Subscripted, no_subscript, subscript, Spans, Absent, Given, AllOf, no_item, value, no_argument, argument, Name, call, Assigns, Calls, Print, Read, If, Do, Return, Stop, no_stmt, stmt, no_branch, branch, Scalars, Explicit, Assumed, Program}
+use Rattle.f95_unit.specs.Plain.{typed, Named, Unary, Binary, Constructor, Asked, Rearranged, at, Whole, Subscripted, no_subscript, subscript, SubscriptTriplet, Absent, Given, AllOf, no_item, value, no_argument, argument, Name, call, Assigns, Calls, Print, Read, If, Do, Return, Stop, no_stmt, stmt, no_branch, branch, Scalars, Explicit, Assumed, Program}
 use Rattle.array_meaning.specs.Build.{ints, logs, int, target, assign, span, entity, procedure, program, num, ended, faulted, Comes}
 
 --     program p; integer :: a(3); a = (/1,2,3/); print *, pack(a, a > 1), reshape(a, (/2,2/), pad=(/0/)), spread(a, 1, 2); end
@@ -73,13 +73,13 @@ backwards_through_two_calls = program
     (entity 2 declared.Integer (Explicit (span Absent (int 6) ∷ [])) role.Own None ∷ [])
     None
     (stmt (Assigns (assign 3 (target (ints 1) (at 0 Whole AllOf)) (int 1))) (stmt (Calls 4 (call 0 (argument 0 (typed (ints
-    1) (Named (at 0 (Subscripted (subscript (Spans (Given (int 6)) (Given (int 1)) (Given (typed (ints 0) (Unary
+    1) (Named (at 0 (Subscripted (subscript (SubscriptTriplet (Given (int 6)) (Given (int 1)) (Given (typed (ints 0) (Unary
     unary.Minus (int 2))))) no_subscript)) AllOf))) no_argument))) (stmt (Print 5 ((typed (ints 1) (Named (at 0 Whole
     AllOf))) ∷ [])) no_stmt))))
     ((procedure 7 false false false
     (entity 8 declared.Integer (Assumed (Absent ∷ [])) (role.Dummy 0 intent.InOut) None ∷ [])
     None
-    (stmt (Calls 9 (call 1 (argument 0 (typed (ints 1) (Named (at 0 (Subscripted (subscript (Spans (Given (int 2)) (Given
+    (stmt (Calls 9 (call 1 (argument 0 (typed (ints 1) (Named (at 0 (Subscripted (subscript (SubscriptTriplet (Given (int 2)) (Given
     (int 3)) Absent) no_subscript)) AllOf))) no_argument))) no_stmt)) ∷ (procedure 11 false false false
     (entity 12 declared.Integer (Explicit (span Absent (int 2) ∷ [])) (role.Dummy 0 intent.InOut) None ∷ [])
     None
@@ -117,7 +117,8 @@ apart_where_none_is_modified = program
     (stmt (Assigns (assign 3 (target (ints 1) (at 0 Whole AllOf)) (typed (ints 1) (Constructor (value (int 1) (value (int 2)
     no_item)))))) (stmt (Calls 4 (call 0 (argument 0 (typed (ints 1) (Named (at 0 Whole AllOf))) (argument 1 (typed (ints
     1) (Named (at 0 Whole AllOf))) no_argument)))) (stmt (Calls 5 (call 1 (argument 0 (typed (ints 1) (Named (at 0
-    (Subscripted (subscript (Spans (Given (int 1)) (Given (int 0)) Absent) no_subscript)) AllOf))) (argument 1 (typed (ints
+    (Subscripted (subscript (SubscriptTriplet (Given (int 1)) (Given (int 0)) Absent) no_subscript)) AllOf))) (argument 1 (typed
+    (ints
     1) (Named (at 0 Whole AllOf))) no_argument)))) (stmt (Print 6 ((typed (ints 1) (Named (at 0 Whole AllOf))) ∷ []))
     no_stmt)))))
     ((procedure 8 false false false

@@ -51,7 +51,7 @@ mutual
   pub data Subscript : Type 0 where
     One : Expr → Subscript
     Vector : Expr → Subscript
-    Spans : (first last stride : Bound) → Subscript
+    SubscriptTriplet : (first last stride : Bound) → Subscript
 
   pub data Bound : Type 0 where
     Absent : Bound

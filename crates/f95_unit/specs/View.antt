@@ -94,7 +94,7 @@ subject_at (Subject-F.Of e) = plain.Of e
 abbrev pub subscript_at : Seen Subscript-F → AddSubscript
 subscript_at (Subscript-F.One e) more = plain.subscript (plain.One e) more
 subscript_at (Subscript-F.Vector e) more = plain.subscript (plain.Vector e) more
-subscript_at (Subscript-F.Triplet first last stride) more = plain.subscript (plain.Spans first last stride) more
+subscript_at (Subscript-F.Triplet first last stride) more = plain.subscript (plain.SubscriptTriplet first last stride) more
 
 abbrev pub argument_at : Seen Argument-F → AddArgument
 argument_at a more = plain.argument a.place a.value more
