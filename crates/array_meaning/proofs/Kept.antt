@@ -255,12 +255,13 @@ module _ (R : Preorder) where
             (keeps_then (keeps_actuals ix es h.1)
             (λ vs q. keeps_then (keeps_call (goes p h.0 _ _)) (λ v q. keeps_pure (CallsIn P) _ tt)))
 
-        keeps_trees : (ix : List ℤ) (es : Arguments) → RefersArguments P es → Keeps R (CallsInAll P) (trees unit calls line ix es)
+        pub keeps_trees : (ix : List ℤ) (es : Arguments) → RefersArguments P es → Keeps R (CallsInAll P) (trees unit calls line ix
+            es)
         keeps_trees ix no_argument h = keeps_pure (CallsInAll P) _ tt
         keeps_trees ix (argument place e es) h = keeps_then (keeps_prepare ix e h.0)
             (λ t p. keeps_then (keeps_trees ix es h.1) (λ ts q. keeps_pure (CallsInAll P) _ (p, q)))
 
-        keeps_values : (ix : List ℤ) (es : Arguments) → RefersArguments P es → Keeps R Any (values unit calls line ix es)
+        pub keeps_values : (ix : List ℤ) (es : Arguments) → RefersArguments P es → Keeps R Any (values unit calls line ix es)
         keeps_values ix no_argument h = kept _
         keeps_values ix (argument place e es) h = keeps_then (keeps_valued (keeps_prepare ix e h.0))
             (λ v p. keeps_then (keeps_values ix es h.1) (λ vs p. kept _))

@@ -8,4 +8,5 @@ pub mod Ignored
 pub mod Kept
 pub mod SameReads
 pub mod SparedReads
+pub mod Limited
 pub mod PureCalls

@@ -30,7 +30,7 @@ still = record {
   turns = λ s n e. (refl, refl, omega arith);
 }
 
-abbrev turns_alone : Preorder
+abbrev pub turns_alone : Preorder
 turns_alone = record {
   relation = TurnsAlone;
   same = λ s. (refl, le_refl s.left);

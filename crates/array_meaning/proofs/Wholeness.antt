@@ -15,14 +15,14 @@ use Rattle.array_meaning.specs.RunLaws.{ValuesAreFull, ConformingIsOneShape}
 pub record Gives {A : Type 0} (P : A → Type 0) (m : Step A) : Type 0 where
   pub gives : (s : State) (a : A) → (m s).came ≡ Ok a → P a
 
-value_or : {A E : Type 0} → A → Result A E → A
+pub value_or : {A E : Type 0} → A → Result A E → A
 value_or d (Ok a) = a
 value_or d (Err halt) = d
 
-abbrev ok : {A E : Type 0} → A → Result A E
+abbrev pub ok : {A E : Type 0} → A → Result A E
 ok a = Ok a
 
-ok_same : {A E : Type 0} (a b : A) → ok {E = E} a ≡ ok b → a ≡ b
+pub ok_same : {A E : Type 0} (a b : A) → ok {E = E} a ≡ ok b → a ≡ b
 unfolding value_or
 ok_same a b e = ap (value_or a) e
 
@@ -50,7 +50,7 @@ unfolding ◌>>◌ ◌>>=◌
 gives_next P m {n = n} g = record { gives = (gives_then (λ a. Unit {0}) P {f = λ a. n} (gives_any m) (λ a u. g)).gives }
 
 module _ (calls : Caller) (line : ℕ) where
-  all_length : (k n : ℕ) (t : Tree) → Gives (λ xs. length xs ≡ n) (all_from calls line k n t)
+  pub all_length : (k n : ℕ) (t : Tree) → Gives (λ xs. length xs ≡ n) (all_from calls line k n t)
   unfolding all_from
   all_length k zero t = gives_pure (λ xs. length xs ≡ zero) [] refl
   all_length k (suc n) t = gives_then (λ x. Unit {0}) (λ xs. length xs ≡ suc n) (gives_any (element calls line t k))
@@ -74,7 +74,7 @@ values_full unit calls line ix e =
 
 -- ---- shapes
 
-both_by : (b : Bool) (first second both : List ℕ) → is_shape first second ≡ b →
+pub both_by : (b : Bool) (first second both : List ℕ) → is_shape first second ≡ b →
     (if b then Ok first else Err fault.Shape) ≡ Ok both → (first ≡ both) × (second ≡ both)
 both_by true first second both e h = let f : first ≡ both = ok_same {E = FaultKind} first both h in
     (f, sym (same_text first second (sym e)) ∙ f)

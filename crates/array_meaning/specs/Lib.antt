@@ -17,3 +17,4 @@ pub mod Examples
 pub mod Frames
 pub mod Purity
 pub mod Reads
+pub mod Sizes

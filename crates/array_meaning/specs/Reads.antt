@@ -18,20 +18,20 @@ abbrev pub Either : Bool → Type 0 → Type 0 → Type 0
 Either true A B = A
 Either false A B = B
 
+-- what holds of each value that a step comes to, with any of the turns that are left
+abbrev pub Whenever : {A : Type 0} → State → Step A → (A → Type 0) → Type 0
+Whenever {A = A} s m P = (turns : ℕ) → turns ≤ s.left → (a : A) → (m (record s { left = turns })).came ≡ Ok a → P a
+
 -- ---- the places that an expression reads, in a state with some of its turns left, are among some places of variables
 
 module _ (unit : Program) (calls : Caller) (line : ℕ) (s : State) (among : ℕ → ℕ → Bool) where
-  -- what holds of each value that a step comes to
-  abbrev pub Whenever : {A : Type 0} → Step A → (A → Type 0) → Type 0
-  Whenever {A = A} m P = (turns : ℕ) → turns ≤ s.left → (a : A) → (m (record s { left = turns })).came ≡ Ok a → P a
-
   abbrev mutual
     pub Reads : List ℤ → Expr → Type 0
     Reads ix (typed f (Literal x)) = Unit {0}
     Reads ix (typed f (Constant n)) = Unit {0}
     Reads ix (typed f (Index i)) = Unit {0}
     -- a designator, what its subscripts read, and each place that it names
-    Reads ix (typed f (Named d)) = ReadsToName ix d × Whenever (designate unit calls line ix d)
+    Reads ix (typed f (Named d)) = ReadsToName ix d × Whenever s (designate unit calls line ix d)
         (λ named. Every (λ k. among named.variable k ≡ true) named.places)
     Reads ix (typed f (Brackets e)) = Reads ix e
     Reads ix (typed f (Unary op e)) = Reads ix e
@@ -106,9 +106,9 @@ module _ (unit : Program) (calls : Caller) (line : ℕ) (s : State) (among : ℕ
     ReadsItems ix no_item = Unit {0}
     ReadsItems ix (value e more) = Reads ix e × ReadsItems ix more
     ReadsItems ix (loop body first last step more) = Reads ix first × Reads ix last × ReadsBound ix step
-        × Whenever (integer unit calls line ix first)
-        (λ f. Whenever (integer unit calls line ix last)
-        (λ l. Whenever (bound_or unit calls line ix (pos 1) step)
+        × Whenever s (integer unit calls line ix first)
+        (λ f. Whenever s (integer unit calls line ix last)
+        (λ l. Whenever s (bound_or unit calls line ix (pos 1) step)
         (λ k. Every (λ i. ReadsItems (ix ++ i ∷ []) body) (triplet_values f l k))))
         × ReadsItems ix more
 

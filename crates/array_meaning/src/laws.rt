@@ -4,6 +4,7 @@ ghost use Rattle.array_meaning.specs.Frames.{FunctionCallsIgnore, StoresLeaveOth
 ghost use Rattle.array_meaning.specs.Purity.{PureCallsAreStill, PureFunctionsTakeTurns};
 ghost use Rattle.array_meaning.specs.Reads.{PartsComeOfReads, PureFunctionsSeeActuals, ValuesComeOfReads, ValuesIgnoreStores};
 ghost use Rattle.array_meaning.specs.RunLaws.{MoreTurns, ValuesAreFull, ConformingIsOneShape};
+ghost use Rattle.array_meaning.specs.Sizes.{InquiriesAreLimited, ReductionsAreLimited, ValuesAreLimited};
 
 /// More turns don't change how a source ended, and with more turns nothing that was written changes. A run has one outcome,
 /// since it is a function of the unit, the input and the number of turns.
@@ -14,6 +15,15 @@ pub fn more_turns()
 /// The value of an expression has as many elements as its extents say.
 pub fn values_are_full()
     ensures { ValuesAreFull }
+{}
+
+/// The value of an expression has at most 2^24 elements, if what it takes as it is has no more: the results of calls, which are
+/// tested where they are declared, and inquiries, MAXLOC and MINLOC, which have one element or one for each dimension of what
+/// they ask about.
+pub fn values_are_limited()
+    ensures values { ValuesAreLimited }
+    ensures inquiries { InquiriesAreLimited }
+    ensures reductions { ReductionsAreLimited }
 {}
 
 /// Where two shapes conform they are one, or one of them is that of a scalar.

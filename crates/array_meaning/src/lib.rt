@@ -16,6 +16,6 @@ mod laws;
 pub use examples::examples_rows;
 pub use laws::{
     conforming_is_one_shape, function_calls_ignore, more_turns, pure_calls,
-    pure_functions_see_actuals, stores_leave_others, values_are_full, values_come_of_reads,
-    values_ignore_others, values_ignore_stores,
+    pure_functions_see_actuals, stores_leave_others, values_are_full, values_are_limited,
+    values_come_of_reads, values_ignore_others, values_ignore_stores,
 };

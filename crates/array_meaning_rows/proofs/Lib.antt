@@ -23,3 +23,8 @@ pub mod OrderTwoRows
 pub mod LimitsRows
 pub mod SourcesOneRows
 pub mod SourcesTwoRows
+pub mod AssignmentsFourRows
+pub mod MasksThreeRows
+pub mod IntrinsicsFourRows
+pub mod IntrinsicsFiveRows
+pub mod ControlThreeRows

@@ -23,3 +23,8 @@ pub mod OrderTwo
 pub mod Limits
 pub mod SourcesOne
 pub mod SourcesTwo
+pub mod AssignmentsFour
+pub mod MasksThree
+pub mod IntrinsicsFour
+pub mod IntrinsicsFive
+pub mod ControlThree

@@ -103,6 +103,7 @@ greatest_bounds = program
 abbrev pub GreatestBounds : Type 0
 GreatestBounds = Comes greatest_bounds ([]) 100 (ended ((num 5 ∷ num 5 ∷ num 2147483647 ∷ []) ∷ []))
 
+-- With 1,000,000 columns it is the same; a row of it was cut to 1,000, since its evaluation lists the subscripts of each dimension
 --     program p; integer :: a(0,1000); a = 1; print *, size(a); end
 unfoldable pub no_row_of_a_thousand : Program
 no_row_of_a_thousand = program

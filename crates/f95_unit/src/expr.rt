@@ -87,7 +87,8 @@ pub enum Item {
     Loop(Items<Item>, Boxed<Expr>, Boxed<Expr>, Bound),
 }
 
-/// An argument with its place among the dummies, counted from 0. Arguments stand in the order of the text.
+/// An argument with its place among the dummies, counted from 0. Arguments stand in the order of the text. One that belongs to no
+/// dummy has a place past the last one, until the calls are tested.
 #[cycle(tree)]
 #[derive(Drop)]
 pub struct Argument {
@@ -103,7 +104,8 @@ pub enum Subject {
     Of(Boxed<Expr>),
 }
 
-/// A procedure by its number, with the actual of each dummy.
+/// A procedure by its number, with the actual of each dummy. What is no procedure has a number past the last one, until the calls
+/// are tested.
 #[cycle(tree)]
 #[derive(Drop)]
 pub struct Call {
