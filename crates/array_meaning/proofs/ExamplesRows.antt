@@ -1,13 +1,13 @@
 -- Small sources that show what acts when. Each row holds by computation.
 use Rattle.std.proofs.Common.{◌≡◌, refl, ap, subst, true}
-use Rattle.std.specs.Prelude.{List, [], ◌∷◌, Result, Ok, Err}
+use Rattle.std.specs.Prelude.{[], ◌∷◌, Result, Ok, Err}
 use Rattle.a95_base.specs.Lists.{Every}
 use Rattle.array_meaning.specs.State.{Halt}
 use Rattle.array_meaning.specs.Sections.{Section}
 use Rattle.array_meaning.specs.Reads.{is_spared}
 use Rattle.array_meaning.specs.Build.{num}
 use Rattle.array_meaning.proofs.Running.{running}
-use Rattle.array_meaning.specs.Examples.{shifted_section, sum_without_mask, pending_places_alone, forall_before_any_store, turns_run_out, shifts, shape_before_many_one, many_one_before_elements, scalar_mask_by_itself, order_of_three, first_and_size, five_elements, ShiftedSection, SumWithoutMask, PendingPlacesAlone, ForallBeforeAnyStore, TurnsRunOut, Shifts, ShapeBeforeManyOne, ManyOneBeforeElements, ScalarMaskByItself, OrderOfThree, ReadsElsewhere}
+use Rattle.array_meaning.specs.Examples.{shifted_section, sum_without_mask, pending_places_alone, forall_before_any_store, turns_run_out, shifts, shape_before_many_one, many_one_before_elements, scalar_mask_by_itself, order_of_three, ShiftedSection, SumWithoutMask, PendingPlacesAlone, ForallBeforeAnyStore, TurnsRunOut, Shifts, ShapeBeforeManyOne, ManyOneBeforeElements, ScalarMaskByItself, OrderOfThree, ReadsElsewhere}
 
 pub shifted_section_row : ShiftedSection
 unfolding running shifted_section

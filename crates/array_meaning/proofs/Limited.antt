@@ -15,26 +15,24 @@ use Rattle.a95_base.specs.Lists.{Every, count_to}
 use Rattle.a95_base.specs.Limits.{most_elements}
 use Rattle.a95_base.specs.Steps.{pure, stop, behind, ◌>>=◌, ◌>>◌}
 use Rattle.a95_base.proofs.Lists.{length-count_to}
-use Rattle.f95_unit.specs.declared.operation.Inquiry.{Inquiry}
 use Rattle.f95_unit.specs.declared.operation.Inquiry.TheVariants as inquiry
-use Rattle.f95_unit.specs.declared.operation.Reduction.{Reduction}
 use Rattle.f95_unit.specs.declared.operation.Reduction.TheVariants as reduction
 use Rattle.f95_unit.specs.declared.operation.Rearranging.{Rearranging}
 use Rattle.f95_unit.specs.declared.operation.Rearranging.TheVariants as rearranging
 use Rattle.f95_unit.specs.Plain.{Expr, typed, Literal, Constant, Index, Named, Brackets, Unary, Binary, Constructor, Elementwise, Trim, Asked, Reduced, Rearranged, Called, Designator, at, Items, no_item, value, loop, Arguments, no_argument, argument, call, Program}
-use Rattle.array_meaning.specs.Values.{Value, truth_of, at_place, scalar_value, vector_value, size_of, is_shape, choices, places, joint, within_limit, entry, without, by_place, argument_of, has_argument}
+use Rattle.array_meaning.specs.Values.{Value, truth_of, at_place, scalar_value, vector_value, size_of, is_shape, places, joint, within_limit, entry, without, by_place, argument_of, has_argument}
 use Rattle.array_meaning.specs.State.{Dimension, extent_of, Array, Variable, State, Halt, Step, unless, choose, given}
 use Rattle.array_meaning.specs.Sections.{Picked, Single, Listed, Stepped, subscripts_of, section_extents, Section, placed, read_section}
 use Rattle.array_meaning.specs.Reductions.{absent, first_argument, second_argument, mask_of, chosen, reduced, matrix_product, product_at, rank, dot, folded, least_integer, greatest_integer, all_true, any_true, how_many, along, shown_lower, shown_upper, entries, reduction_of}
-use Rattle.array_meaning.specs.Rearrangements.{conforming, packed_into, packed_or_filled, packed, unpacked_at, unpacked_by, is_order, reshaped, reshape_checked, integers_of, order_or_own, no_elements, number_at, dim_or_one, transposed, cyclically_shifted, shifted_off, boundary_of, copies_along, at_least_none, rearrangement_of}
-use Rattle.array_meaning.specs.Trees.{Tree, Held, UnaryOf, BinaryOf, Each, CallEach, Trees, no_tree, tree, held, bracketed, Caller, Passed, shape, shapes, joined_shapes, all_from, whole, valued}
-use Rattle.array_meaning.specs.Expressions.{rounds, gathered, prepare, trees, values, actuals, reduction_values, answer, designate, gather, evaluate, has_no_extents, procedure_at}
+use Rattle.array_meaning.specs.Rearrangements.{conforming, packed_into, packed_or_filled, unpacked_at, unpacked_by, is_order, reshaped, reshape_checked, integers_of, order_or_own, no_elements, number_at, dim_or_one, transposed, cyclically_shifted, shifted_off, boundary_of, copies_along, at_least_none, rearrangement_of}
+use Rattle.array_meaning.specs.Trees.{Tree, Held, UnaryOf, BinaryOf, Each, CallEach, Trees, no_tree, tree, held, bracketed, Caller, Passed, shape, shapes, joined_shapes, whole}
+use Rattle.array_meaning.specs.Expressions.{rounds, gathered, prepare, trees, values, designate, gather, has_no_extents, procedure_at}
 use Rattle.array_meaning.specs.Purity.{Refers, RefersArguments, TurnsAlone, Changes}
 use Rattle.array_meaning.specs.Reads.{Either, Whenever, SeesActualsAlone}
-use Rattle.array_meaning.specs.Sizes.{IsLimited, ResultsAreLimited, is_of_places, TakesLimited, AllTakeLimited, ValuesAreLimited, InquiriesAreLimited, ReductionsAreLimited}
-use Rattle.array_meaning.proofs.Kept.{Keeps, Any, keeps_prepare, keeps_values, keeps_trees, keeps_evaluate}
+use Rattle.array_meaning.specs.Sizes.{IsLimited, is_of_places, TakesLimited, AllTakeLimited, ValuesAreLimited, InquiriesAreLimited, ReductionsAreLimited}
+use Rattle.array_meaning.proofs.Kept.{keeps_prepare, keeps_evaluate}
 use Rattle.array_meaning.proofs.PureCalls.{turns_alone}
-use Rattle.array_meaning.proofs.Wholeness.{Gives, gives_pure, gives_then, gives_next, gives_any, ok, ok_same, both_by, all_length}
+use Rattle.array_meaning.proofs.Wholeness.{Gives, gives_pure, gives_then, gives_next, gives_any, ok, ok_same, all_length}
 
 abbrev Small : List ℕ → Type 0
 Small extents = size_of extents ≤ most_elements
@@ -108,8 +106,8 @@ in_brackets (CallEach p like ts) h = h
 
 -- ---- steps
 
-gives_given : {A : Type 0} (P : A → Type 0) (line : ℕ) (r : Result A FaultKind) → ((a : A) → r ≡ Ok a → P a) → Gives P (given line
-    r)
+gives_given : {A : Type 0} (P : A → Type 0) (line : ℕ) (r : Result A FaultKind) → ((a : A) → r ≡ Ok a → P a)
+    → Gives P (given line r)
 unfolding given pure stop
 gives_given P line (Ok a) h = record { gives = λ s b e. subst P (ok_same {E = Halt} a b e) (h a refl) }
 gives_given P line (Err kind) h = record { gives = λ s b e. cc }
@@ -234,11 +232,12 @@ size_reverse (x ∷ xs) = ap size_of (reverse-append (x ∷ []) xs) ∙ size_app
 
 -- ---- inquiries and reductions
 
-entries_size : (zs : List ℤ) (dim : Option ℕ) → (size_of (entries zs dim).extents ≡ 1) ⊎ (size_of (entries zs dim).extents ≡ length
-    zs)
-entries_size zs None = inr (let one : length (map (λ z. scalar.Int (wrapped z)) zs) * 1 ≡ length (map (λ z. scalar.Int (wrapped z))
-    zs)
-    = omega arith in one ∙ length-map zs (λ z. scalar.Int (wrapped z)))
+entries_size : (zs : List ℤ) (dim : Option ℕ)
+    → (size_of (entries zs dim).extents ≡ 1) ⊎ (size_of (entries zs dim).extents ≡ length zs)
+entries_size zs None =
+    let ys : List Scalar = map (λ z. scalar.Int (wrapped z)) zs in
+    let one : length ys * 1 ≡ length ys = omega arith in
+    inr (one ∙ length-map zs (λ z. scalar.Int (wrapped z)))
 entries_size zs (Some dim) = inl refl
 
 shown_size : (f : Dimension → ℤ) (bounds : List Dimension) (dim : Option ℕ)
@@ -276,9 +275,8 @@ reductions_are_limited reduction.Product dim xs v other e = reduced_small (scala
     (first_argument xs) (mask_of 2 xs) v e
 reductions_are_limited reduction.Maxval dim xs v other e = reduced_small (scalar.Int (pos 0)) (folded greater_of least_integer) dim
     (first_argument xs) (mask_of 2 xs) v e
-reductions_are_limited reduction.Minval dim xs v other e = reduced_small (scalar.Int (pos 0)) (folded lesser_of
-    greatest_integer) dim
-    (first_argument xs) (mask_of 2 xs) v e
+reductions_are_limited reduction.Minval dim xs v other e = reduced_small (scalar.Int (pos 0)) (folded lesser_of greatest_integer)
+    dim (first_argument xs) (mask_of 2 xs) v e
 reductions_are_limited reduction.All dim xs v other e = reduced_small (scalar.Log false) all_true dim
     (first_argument xs) (scalar_value (scalar.Log true)) v e
 reductions_are_limited reduction.Any dim xs v other e = reduced_small (scalar.Log false) any_true dim
@@ -375,8 +373,12 @@ module _ (xs : List (ℕ × Value)) (h : Every (λ (x : ℕ × Value). IsWhole x
       let truths : List Bool = map truth_of mask.elements in
       conforming_small (joint mask.extents field.extents) (unpacked_by vector mask.extents truths field) v
       (λ w f. unpacked_small (nat_lt (length vector.elements) (length (filter (λ b. b) truths)))
-      (record { extents = mask.extents; like = vector.like; elements = map (unpacked_at vector truths field)
-      (count_to (length truths)) })
+      (record {
+        extents = mask.extents;
+        like = vector.like;
+        elements = map (unpacked_at vector truths field)
+            (count_to (length truths));
+      })
       w (given_whole 1).0 f) e
   rearranged_small rearranging.Reshape dim v e = reshaped_small (first_argument xs) (integers_of (second_argument xs))
       (argument_of no_elements 2 xs)

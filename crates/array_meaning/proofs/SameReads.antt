@@ -1,6 +1,6 @@
 -- Two runs of a step, from states that differ in the elements of variables alone: if they agree on what is read, both come to the
 -- same, and take as many turns: one line a case.
-use Rattle.std.proofs.Common.{◌≡◌, refl, sym, ap, ◌∙◌, subst, ℕ, ℤ, pos, zero, suc, ◌+ℤ◌, ◌*ℤ◌, ◌≤◌, ◌<◌, Bool, true, false, not, ◌&&◌, List, [], ◌∷◌, ◌++◌, map, arith}
+use Rattle.std.proofs.Common.{◌≡◌, refl, sym, ap, ◌∙◌, subst, ℕ, ℤ, pos, zero, suc, ◌+ℤ◌, ◌*ℤ◌, ◌≤◌, ◌<◌, Bool, true, false, List, [], ◌∷◌, ◌++◌, map, arith}
 use Rattle.std.specs.Prelude.{Option, Some, None, is_some, slice_index_or, Result, Ok, Err}
 use Rattle.std.proofs.Math.Nat.{le_refl, le_trans}
 use Rattle.std.proofs.Math.IntN.{+ℤ_assoc, +ℤ_comm, suc_ℤ-*ℤ, zero-*ℤ, +ℤ_idr}
@@ -20,7 +20,7 @@ use Rattle.array_meaning.specs.State.{Dimension, counted_from_one, Array, Variab
 use Rattle.array_meaning.specs.Sections.{Picked, triplet_count, triplet_values, Section, section_value, placed, read_section}
 use Rattle.array_meaning.specs.Reductions.{inquired}
 use Rattle.array_meaning.specs.Trees.{Tree, Held, UnaryOf, BinaryOf, Each, CallEach, Trees, no_tree, tree, bracketed, Caller, Passed, shape, shapes, joined_shapes, like, likes, element, elements, all_from, pairs_from, whole, valued, passed, paired}
-use Rattle.array_meaning.specs.Expressions.{number_of_value, rounds, gathered, asked, prepare, trees, values, actuals, reduction_values, answer, designate, pick, pick_each, pick_one, bound_or, part_bounds, gather, evaluate, integer, procedure_at, result_like, has_no_extents}
+use Rattle.array_meaning.specs.Expressions.{number_of_value, rounds, gathered, asked, prepare, trees, values, actuals, reduction_values, answer, designate, pick, pick_each, pick_one, bound_or, part_bounds, gather, evaluate}
 use Rattle.array_meaning.specs.Purity.{Refers, RefersArguments, RefersSubject, RefersDesignator, RefersAccess, RefersSubscripts, RefersSubscript, RefersBound, RefersPart, RefersItems}
 use Rattle.array_meaning.specs.Reads.{Either, Reads, ReadsArguments, ReadsSubject, ReadsForShape, ReadsArgumentsForShape, ReadsToName, ReadsAccess, ReadsSubscripts, ReadsSubscript, ReadsBound, ReadsPart, ReadsItems, SeesActualsAlone, ArraysAgree, VariablesAgree, AllAgree, PartsComeOfReads, ValuesComeOfReads}
 use Rattle.array_meaning.proofs.Kept.{CallsIn, CallsInAll}

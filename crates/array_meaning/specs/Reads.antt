@@ -4,9 +4,8 @@ use Rattle.std.specs.Prelude.{◌≡◌, ℕ, ℤ, pos, ◌≤◌, Bool, true, f
 use Rattle.std.specs.List.{list_any}
 use Rattle.a95_base.specs.declared.scalar.Scalar.{Scalar}
 use Rattle.a95_base.specs.Lists.{Every}
-use Rattle.a95_base.specs.Steps.{Ran}
 use Rattle.f95_unit.specs.Plain.{Expr, typed, Literal, Constant, Index, Named, Brackets, Unary, Binary, Constructor, Elementwise, Trim, Asked, Reduced, Rearranged, Called, Designator, at, Access, Whole, Subscripted, Subscripts, no_subscript, subscript, Subscript, One, Vector, SubscriptTriplet, Bound, Absent, Given, Part, AllOf, BytesOf, Items, no_item, value, loop, Arguments, no_argument, argument, Subject, Name, Of, call, Program}
-use Rattle.array_meaning.specs.State.{Array, Variable, no_variable, State, Halt, Step, Substring, store_all}
+use Rattle.array_meaning.specs.State.{Array, Variable, no_variable, State, Step, Substring, store_all}
 use Rattle.array_meaning.specs.Sections.{triplet_values}
 use Rattle.array_meaning.specs.Trees.{Passed, Caller}
 use Rattle.array_meaning.specs.Expressions.{procedure_at, has_no_extents, prepare, designate, bound_or, evaluate, integer}

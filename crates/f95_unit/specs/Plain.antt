@@ -1,7 +1,6 @@
 -- The typed unit as plain data, in which a list inside a tree is a type of its own block. Meanings, predicates and laws stand on
 -- this; `View` makes it of the unit that the code holds. Facts, operators and what else holds no tree are the code's own types.
 use Rattle.std.specs.Prelude.{ℕ, Bool, Option, List}
-use Rattle.a95_base.specs.declared.scalar.Kind.{Kind}
 use Rattle.a95_base.specs.declared.scalar.Scalar.{Scalar}
 use Rattle.f95_unit.specs.declared.facts.Facts.{Facts}
 use Rattle.f95_unit.specs.declared.operation.UnaryOp.{UnaryOp}

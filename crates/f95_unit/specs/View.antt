@@ -1,8 +1,7 @@
 -- The typed unit of the code as plain data: one fold over expressions, one over WHERE, one over statements.
-use Rattle.std.specs.Prelude.{ℕ, Option, List, [], ◌∷◌, map, option_map}
+use Rattle.std.specs.Prelude.{ℕ, List, [], ◌∷◌, map, option_map}
 use Rattle.a95_base.specs.declared.source.Line.{Line}
 use Rattle.f95_unit.specs.Plain as plain
-use Rattle.f95_unit.specs.declared.expr.Access.{Access}
 use Rattle.f95_unit.specs.declared.expr.Access.TheOpen.{Access-F, Bound-F, Item-F, Node-F, Part-F, Subject-F, Subscript-F, Argument-F, Call-F, Designator-F, Expr-F}
 use Rattle.f95_unit.specs.declared.expr.Access.TheFolds.{fold-Bound, fold-Call, fold-Designator, fold-Expr}
 use Rattle.f95_unit.specs.declared.expr.Bound.{Bound}
