@@ -1,0 +1,3 @@
+pub mod Found
+pub mod Keywords
+pub mod Numerals
