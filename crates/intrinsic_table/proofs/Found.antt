@@ -62,17 +62,20 @@ names_differ v w e = let same : Some v ≡ Some w = sym (each_is_found v) ∙ (a
 -- what is found has the name
 first_is : (name : Word) (b : Bool) (which w : Intrinsic) (more : Option Intrinsic) → is_word (name_of which) name ≡ b
     → (more ≡ Some w → name_of w ≡ name) → cond b (Some which) more ≡ Some w → name_of w ≡ name
-first_is name true which w more h later e = let same : which ≡ w = cc in ap name_of (sym same) ∙ (bytes_eq-Decides (name_of which) name).0 h
+first_is name true which w more h later e =
+    let same : which ≡ w = cc in ap name_of (sym same) ∙ (bytes_eq-Decides (name_of which) name).0 h
 first_is name false which w more h later e = later e
 
 pub named_so : (among : List Intrinsic) (name : Word) (w : Intrinsic) → first_named among name ≡ Some w → name_of w ≡ name
 named_so [] name w e = cc
-named_so (which ∷ more) name w e = first_is name (is_word (name_of which) name) which w (first_named more name) refl (named_so more name w) e
+named_so (which ∷ more) name w e =
+    first_is name (is_word (name_of which) name) which w (first_named more name) refl (named_so more name w) e
 
 -- where none is found, none has the name
 pub none_named_so : (name : Word) → found name ≡ None → (w : Intrinsic) → name_of w ≢ name
 none_named_so name none w e = let some : Some w ≡ found name = sym (each_is_found w) ∙ ap found e in cc
 
-pub named_if_some : (among : List Intrinsic) (name : Word) (r : Option Intrinsic) → r ≡ first_named among name → IfSome r (λ w. name_of w ≡ name)
+pub named_if_some : (among : List Intrinsic) (name : Word) (r : Option Intrinsic)
+    → r ≡ first_named among name → IfSome r (λ w. name_of w ≡ name)
 named_if_some among name (Some w) e = named_so among name w (sym e)
 named_if_some among name None e = tt

@@ -112,8 +112,10 @@ pub record IsNumbered (p : ℕ) (k : Word) : Type 0 where
   pub below : p < most_numbered
   pub spelled : k ≡ 97 ∷ decimal (p + 1)
 
-numbered_by : (b : Bool) (p : ℕ) (k : Word) → nat_lt p most_numbered ≡ b → cond b (Some (97 ∷ decimal (p + 1))) None ≡ Some k → IsNumbered p k
-numbered_by true p k h e = record { below = (Decides-ltb p most_numbered).0 h; spelled = sym (some_same (97 ∷ decimal (p + 1)) k e) }
+numbered_by : (b : Bool) (p : ℕ) (k : Word) → nat_lt p most_numbered ≡ b
+    → cond b (Some (97 ∷ decimal (p + 1))) None ≡ Some k → IsNumbered p k
+numbered_by true p k h e =
+    record { below = (Decides-ltb p most_numbered).0 h; spelled = sym (some_same (97 ∷ decimal (p + 1)) k e) }
 numbered_by false p k h e = absurd (none_some k None refl e)
 
 pub numbered_is : (p : ℕ) (k : Word) → keyword_in Numbered p ≡ Some k → IsNumbered p k
@@ -138,7 +140,8 @@ one_number p q k e f =
     (same_tail 97 (decimal (p + 1)) (decimal (q + 1)) (sym a.spelled ∙ b.spelled)) in
     omega arith
 
-one_place_in : (a : Arguments) → differ_in a ≡ true → (p q : ℕ) (k : Word) → keyword_in a p ≡ Some k → keyword_in a q ≡ Some k → p ≡ q
+one_place_in : (a : Arguments) → differ_in a ≡ true → (p q : ℕ) (k : Word)
+    → keyword_in a p ≡ Some k → keyword_in a q ≡ Some k → p ≡ q
 one_place_in (Takes needed optional) h p q k e f = one_place (needed ++ optional) h p q k e f
 one_place_in Numbered h p q k e f = one_number p q k e f
 

@@ -36,7 +36,8 @@ begins (byte ∷ more) low high some = is_within byte low high
 -- a number from 1 on begins so
 pub decimal_begins : (n : ℕ) → 0 < n → n < 2 ^ 32 → begins_number (decimal n) ≡ true
 decimal_begins n some small =
-    let digit : IsInRange 48 57 (get_or (decimal n) 0 0) = digit_at (decimal n) 0 (digits_decimal numerals n (wide n small)) (decimal_nonempty n (wide n small)) in
+    let digit : IsInRange 48 57 (get_or (decimal n) 0 0) =
+    digit_at (decimal n) 0 (digits_decimal numerals n (wide n small)) (decimal_nonempty n (wide n small)) in
     let first : 48 < get_or (decimal n) 0 0 = first_decimal n some (wide n small) in
     begins (decimal n) (omega arith) (omega (arith, digit)) (decimal_nonempty n (wide n small))
 
@@ -58,17 +59,21 @@ positive zero bytes e h =
     absurd (omega arith)
 positive (suc n) bytes e h = omega arith
 
-pub parsed_some : {E : Type 0} (bytes : List ℕ) (r : Result ℕ E) (n : ℕ) → begins_number bytes ≡ true → ParsesUnsigned 32 10 bytes r → r ≡ Ok n
-    → Writes bytes (Some n)
+pub parsed_some : {E : Type 0} (bytes : List ℕ) (r : Result ℕ E) (n : ℕ) → begins_number bytes ≡ true
+    → ParsesUnsigned 32 10 bytes r → r ≡ Ok n → Writes bytes (Some n)
 parsed_some {E = E} bytes r n h parses is =
     let b = begun bytes h in
-    let P : Result ℕ E → Type 0 = λ o. OkIff o (AllDigits 10 bytes × (0 < length bytes) × (digits_value 10 bytes < 2 ^ 32)) (digits_value 10 bytes) in
+    let P : Result ℕ E → Type 0 =
+    λ o. OkIff o (AllDigits 10 bytes × (0 < length bytes) × (digits_value 10 bytes < 2 ^ 32)) (digits_value 10 bytes) in
     let ok : (AllDigits 10 bytes × (0 < length bytes) × (digits_value 10 bytes < 2 ^ 32)) × (n ≡ digits_value 10 bytes) =
     subst P is (parse_plain numerals 32 bytes r parses (λ plus. absurd (omega (arith, plus, b.0)))) in
-    let writes : decimal (digits_value 10 bytes) ≡ bytes = decimal-digits_value numerals bytes ok.0.0 b.2 (λ nought. absurd (omega (arith, nought, b.0))) (wide (digits_value 10 bytes) ok.0.2) in
+    let writes : decimal (digits_value 10 bytes) ≡ bytes =
+    decimal-digits_value numerals bytes ok.0.0 b.2 (λ nought. absurd (omega (arith, nought, b.0)))
+    (wide (digits_value 10 bytes) ok.0.2) in
     let same : decimal n ≡ bytes = ap decimal ok.1 ∙ writes in
     let Q : ℕ → Type 0 = λ m. m < 2 ^ 32 in
     (positive n bytes same b.0, subst Q (sym ok.1) ok.0.2, sym same)
 
-pub parsed_none : {E : Type 0} (bytes : List ℕ) (r : Result ℕ E) (x : E) → ParsesUnsigned 32 10 bytes r → r ≡ Err x → Writes bytes None
+pub parsed_none : {E : Type 0} (bytes : List ℕ) (r : Result ℕ E) (x : E) → ParsesUnsigned 32 10 bytes r → r ≡ Err x
+    → Writes bytes None
 parsed_none bytes r x parses is n some small e = let ok : r ≡ Ok n = parse-decimal 32 n bytes r small (wide n small) e parses in cc
