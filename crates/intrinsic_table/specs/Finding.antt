@@ -17,14 +17,15 @@ first_named (which ∷ more) name = if is_word (name_of which) name then Some wh
 -- those whose names begin with this byte
 abbrev pub beginning : ℕ → List Intrinsic
 beginning byte =
-    if byte == 97 then intrinsic.Abs ∷ intrinsic.All ∷ intrinsic.Any ∷ intrinsic.Allocated ∷ intrinsic.Adjustl ∷ intrinsic.Adjustr ∷ []
+    if byte == 97 then intrinsic.Abs ∷ intrinsic.All ∷ intrinsic.Any ∷ intrinsic.Allocated
+    ∷ intrinsic.Adjustl ∷ intrinsic.Adjustr ∷ []
     else (if byte == 99 then intrinsic.Char ∷ intrinsic.Count ∷ intrinsic.Cshift ∷ []
     else (if byte == 100 then intrinsic.DotProduct ∷ []
     else (if byte == 101 then intrinsic.Eoshift ∷ []
     else (if byte == 105 then intrinsic.Iand ∷ intrinsic.Ior ∷ intrinsic.Ieor ∷ intrinsic.Ichar ∷ intrinsic.Index ∷ []
     else (if byte == 108 then intrinsic.Len ∷ intrinsic.Lbound ∷ intrinsic.LenTrim ∷ []
-    else (if byte == 109 then intrinsic.Mod ∷ intrinsic.Max ∷ intrinsic.Min ∷ intrinsic.Merge ∷ intrinsic.Modulo ∷ intrinsic.Maxval ∷ intrinsic.Minval
-    ∷ intrinsic.Maxloc ∷ intrinsic.Minloc ∷ intrinsic.Matmul ∷ []
+    else (if byte == 109 then intrinsic.Mod ∷ intrinsic.Max ∷ intrinsic.Min ∷ intrinsic.Merge ∷ intrinsic.Modulo
+    ∷ intrinsic.Maxval ∷ intrinsic.Minval ∷ intrinsic.Maxloc ∷ intrinsic.Minloc ∷ intrinsic.Matmul ∷ []
     else (if byte == 112 then intrinsic.Pack ∷ intrinsic.Product ∷ []
     else (if byte == 114 then intrinsic.Reshape ∷ []
     else (if byte == 115 then intrinsic.Sum ∷ intrinsic.Sign ∷ intrinsic.Size ∷ intrinsic.Shape ∷ intrinsic.Spread ∷ []

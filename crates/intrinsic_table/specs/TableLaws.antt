@@ -26,4 +26,5 @@ PlacesAreCounted = (w : Intrinsic) (p : ℕ) → IsSome (keyword_at w p) ↔ (p 
 
 -- an argument that is needed has a keyword, and so are those before it
 abbrev pub NeededStandFirst : Type 0
-NeededStandFirst = (w : Intrinsic) (p : ℕ) → IsTrue (is_needed w p) → IsSome (keyword_at w p) × ((q : ℕ) → q < p → IsTrue (is_needed w q))
+NeededStandFirst =
+    (w : Intrinsic) (p : ℕ) → IsTrue (is_needed w p) → IsSome (keyword_at w p) × ((q : ℕ) → q < p → IsTrue (is_needed w q))
