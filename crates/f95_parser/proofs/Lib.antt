@@ -1,1 +1,4 @@
 pub mod Depths
+pub mod BlockLaws
+pub mod UnitLaws
+pub mod FormLaws

@@ -25,11 +25,7 @@ use Rattle.f95_expressions.specs.Machine.{collected, expression_of, whole, first
 use Rattle.f95_parts.specs.Views.{is_nil, behind, behind_name, behind_keyword, behind_word, at_end, nothing_more, name_at_end}
 use Rattle.f95_parts.specs.Parts.{name_of, range_of}
 use Rattle.f95_statements.specs.Actions.{conditioned, headed, listed, assigned, action_of}
-use Rattle.f95_statements.specs.Declarations.{type_of, procedure_of, typed_form}
-
-abbrev pub or_else : {A : Type 0} → Option A → Option A → Option A
-or_else None other = other
-or_else (Some a) other = Some a
+use Rattle.f95_statements.specs.Declarations.{or_else, type_of, procedure_of, typed_form}
 
 -- Blocks.
 
