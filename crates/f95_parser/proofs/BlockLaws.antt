@@ -69,7 +69,7 @@ whole_condition_sound ts x h = chained at_end (conditioned ts) x h (λ p hp he.
     let end = end_sound p x he in
     let c = conditioned_sound ts p hp in
     is_as condition_text well ts p.0 x end.0 (sym (append-nil (condition_text p.0)) ∙ ap (λ t. condition_text p.0 ++ t) (sym end.1)
-        ∙ c.spelled) c.kept)
+    ∙ c.spelled) c.kept)
 
 pub whole_condition_again : (x : Expression) → well x ≡ true → whole_condition (condition_text x) ≡ Some x
 whole_condition_again x w = ap (option_and_then at_end) (condition_again x w)
@@ -89,9 +89,9 @@ if_block_sound n ts b h = chained (λ p. if is_then p.1 then Some (block_of.If n
     let c = conditioned_sound ts p hp in
     tested (is_then p.1) (block_of.If n p.0) b h2 (λ is_end is.
     is_as block_text well_block (label n ++ block_word block.If ∷ ts) (block_of.If n p.0) b is
-        (ap (λ t. label n ++ block_word block.If ∷ (condition_text p.0 ++ t)) (sym (then_sound p.1 is_end))
-            ∙ ap (λ t. label n ++ block_word block.If ∷ t) c.spelled)
-        c.kept))
+    (ap (λ t. label n ++ block_word block.If ∷ (condition_text p.0 ++ t)) (sym (then_sound p.1 is_end))
+    ∙ ap (λ t. label n ++ block_word block.If ∷ t) c.spelled)
+    c.kept))
 
 pub if_block_again : (n : Option Word) (x : Expression) → well x ≡ true →
     if_block n (condition_text x ++ named (codes "then")) ≡ Some (block_of.If n x)
@@ -103,7 +103,7 @@ select_by_sound : (n : Option Word) (k : Keyword) (ts : Text) (b : BlockForm) �
 select_by_sound n keyword.Case ts b h = mapped (block_of.Select n) (whole_condition ts) b h (λ x hx is.
     let c = whole_condition_sound ts x hx in
     is_as block_text well_block (label n ++ block_word block.Select ∷ terminal.Keyword keyword.Case ∷ ts) (block_of.Select n x) b is
-        (ap (λ t. label n ++ block_word block.Select ∷ terminal.Keyword keyword.Case ∷ t) c.spelled) c.kept)
+    (ap (λ t. label n ++ block_word block.Select ∷ terminal.Keyword keyword.Case ∷ t) c.spelled) c.kept)
 select_by_sound n k ts b h = absurd (cc)
 
 pub select_sound : (n : Option Word) (ts : Text) (b : BlockForm) → select_of n ts ≡ Some b →
@@ -138,7 +138,7 @@ counter_spelled n from to None = list_text argument_field argument_text argument
 counter_spelled n from to (Some step) = list_text argument_field argument_text argument_spelled
     (counter_arguments n from to (argument None step ∷ []))
     ∙ ap (λ t. terminal.Name n ∷ punctuated mark.Assign
-        (expression from ++ punctuated mark.Comma (expression to ++ punctuated mark.Comma t))) (append-nil (expression step))
+    (expression from ++ punctuated mark.Comma (expression to ++ punctuated mark.Comma t))) (append-nil (expression step))
 
 counter_kept : (n : Word) (from to : Expression) (step : Option Expression) → well_fields (counter_fields n from to step) ≡ true →
     (well from && (well to && maybe_well_expression step)) ≡ true
@@ -147,7 +147,7 @@ counter_kept n from to None h = (onto_well argument_field (λ (a : Argument). we
 counter_kept n from to (Some step) h =
     ap (λ b. well from && (well to && b)) (sym (and-true (well step)))
     ∙ (onto_well argument_field (λ (a : Argument). well a.value) argument_well
-        (counter_arguments n from to (argument None step ∷ [])) [] h).0
+    (counter_arguments n from to (argument None step ∷ [])) [] h).0
 
 counter_well : (n : Word) (from to : Expression) (step : Option Expression) →
     (well from && (well to && maybe_well_expression step)) ≡ true →
@@ -156,14 +156,14 @@ counter_well n from to None h =
     let first = both (well from) (well to && true) h in
     let last = both (well to) true first.1 in
     joined (well_field (counter n from)) (well_field (expression_field to)) (argument_well (argument (Some n) from) ∙ first.0)
-        (argument_well (argument None to) ∙ last.0)
+    (argument_well (argument None to) ∙ last.0)
 counter_well n from to (Some step) h =
     let first = both (well from) (well to && well step) h in
     let last = both (well to) (well step) first.1 in
     joined (well_field (counter n from) && well_field (expression_field to)) (well_field (expression_field step))
-        (joined (well_field (counter n from)) (well_field (expression_field to)) (argument_well (argument (Some n) from) ∙ first.0)
-            (argument_well (argument None to) ∙ last.0))
-        (argument_well (argument None step) ∙ last.1)
+    (joined (well_field (counter n from)) (well_field (expression_field to)) (argument_well (argument (Some n) from) ∙ first.0)
+    (argument_well (argument None to) ∙ last.0))
+    (argument_well (argument None step) ∙ last.1)
 
 record Counted (comma : Bool) (fs : List Field) (c : Control) : Type 0 where
   pub name : Word
@@ -188,9 +188,9 @@ counter_is f n from hn hfrom = ap (λ l. field l f.spread) (left_sound f.left n 
 counted_two_sound : (comma : Bool) (z y : Field) (c : Control) → counted_by comma y z None ≡ Some c → Counted comma (z ∷ y ∷ []) c
 counted_two_sound comma z y c h =
     chained (λ n. option_and_then (λ from. option_map (λ to. control_of.Counted comma n from to None) (expression_of z))
-        (first_in y.spread)) (index_of y) c h (λ n hn h2.
+    (first_in y.spread)) (index_of y) c h (λ n hn h2.
     chained (λ from. option_map (λ to. control_of.Counted comma n from to None) (expression_of z)) (first_in y.spread) c h2
-        (λ from hfrom h3.
+    (λ from hfrom h3.
     mapped (λ to. control_of.Counted comma n from to None) (expression_of z) c h3 (λ to hto is. record {
       name = n;
       from = from;
@@ -205,9 +205,9 @@ counted_three_sound : (comma : Bool) (z y x : Field) (step : Expression) (c : Co
     counted_by comma x y (Some step) ≡ Some c → Counted comma (z ∷ y ∷ x ∷ []) c
 counted_three_sound comma z y x step c hstep h =
     chained (λ n. option_and_then (λ from. option_map (λ to. control_of.Counted comma n from to (Some step)) (expression_of y))
-        (first_in x.spread)) (index_of x) c h (λ n hn h2.
+    (first_in x.spread)) (index_of x) c h (λ n hn h2.
     chained (λ from. option_map (λ to. control_of.Counted comma n from to (Some step)) (expression_of y)) (first_in x.spread) c h2
-        (λ from hfrom h3.
+    (λ from hfrom h3.
     mapped (λ to. control_of.Counted comma n from to (Some step)) (expression_of y) c h3 (λ to hto is. record {
       name = n;
       from = from;
@@ -233,18 +233,18 @@ counted_sound comma ts c h = chained (counted_in comma) (row ts) c h (λ fs hfs 
     let found = row_sound ts fs hfs in
     let k = counted_in_sound comma fs c hc in
     is_as control_text well_control (comma_text comma ++ ts) (control_of.Counted comma k.name k.from k.to k.step) c k.is
-        (ap (λ t. comma_text comma ++ t) (sym (counter_spelled k.name k.from k.to k.step) ∙ sym (ap fields_text k.fields)
-            ∙ found.0))
-        (counter_kept k.name k.from k.to k.step (sym (ap well_fields k.fields) ∙ found.1)))
+    (ap (λ t. comma_text comma ++ t) (sym (counter_spelled k.name k.from k.to k.step) ∙ sym (ap fields_text k.fields)
+    ∙ found.0))
+    (counter_kept k.name k.from k.to k.step (sym (ap well_fields k.fields) ∙ found.1)))
 
 counter_in : (comma : Bool) (n : Word) (from to : Expression) (step : Option Expression) →
     counted_by comma (counter n from) (expression_field to) step ≡ Some (control_of.Counted comma n from to step)
 counter_in comma n from to step =
     ap (option_and_then (λ n. option_and_then
-        (λ from. option_map (λ to. control_of.Counted comma n from to step) (expression_of (expression_field to)))
-        (lone (v.One from)))) (whole_again n)
+    (λ from. option_map (λ to. control_of.Counted comma n from to step) (expression_of (expression_field to)))
+    (lone (v.One from)))) (whole_again n)
     ∙ ap (option_and_then (λ from. option_map (λ to. control_of.Counted comma n from to step)
-        (expression_of (expression_field to)))) (lone_again from)
+    (expression_of (expression_field to)))) (lone_again from)
     ∙ ap (option_map (λ to. control_of.Counted comma n from to step)) (expression_again to)
 
 counted_in_again : (comma : Bool) (n : Word) (from to : Expression) (step : Option Expression) →
@@ -252,7 +252,7 @@ counted_in_again : (comma : Bool) (n : Word) (from to : Expression) (step : Opti
 counted_in_again comma n from to None = counter_in comma n from to None
 counted_in_again comma n from to (Some step) =
     ap (option_and_then (λ step. counted_by comma (counter n from) (expression_field to) (Some step))) (expression_again step)
-        ∙ counter_in comma n from to (Some step)
+    ∙ counter_in comma n from to (Some step)
 
 counter_row : (n : Word) (from to : Expression) (step : Option Expression) → well_fields (counter_fields n from to step) ≡ true →
     row (fields_text (counter_fields n from to step)) ≡ Some (counter_fields n from to step)
@@ -276,8 +276,8 @@ while_sound comma ts c h = mapped (control_of.While comma) (option_and_then whol
     chained whole_condition (behind_word (codes "while") ts) x hx (λ rest hr hc.
     let k = whole_condition_sound rest x hc in
     is_as control_text well_control (comma_text comma ++ ts) (control_of.While comma x) c is
-        (ap (λ t. comma_text comma ++ t) (ap (λ t. terminal.Name (codes "while") ∷ t) k.spelled
-            ∙ sym (word_sound (codes "while") ts rest hr))) k.kept))
+    (ap (λ t. comma_text comma ++ t) (ap (λ t. terminal.Name (codes "while") ∷ t) k.spelled
+    ∙ sym (word_sound (codes "while") ts rest hr))) k.kept))
 
 while_again : (comma : Bool) (x : Expression) → well x ≡ true →
     while_of comma (terminal.Name (codes "while") ∷ condition_text x) ≡ Some (control_of.While comma x)
@@ -304,7 +304,7 @@ control_behind_sound (Some rest) ts c there h = subst (λ t. Is control_text wel
 controlled_sound : (ts : Text) (c : Control) → controlled ts ≡ Some c → Is control_text well_control ts c
 controlled_sound ts c h = chosen (is_nil ts) (Some control_of.Forever) (control_behind (behind mark.Comma ts) ts) c h
     (λ is_end h. let q : control_of.Forever ≡ c = cc in is_as control_text well_control ts control_of.Forever c q
-        (sym (nil ts is_end)) refl)
+    (sym (nil ts is_end)) refl)
     (λ _ h. control_behind_sound (behind mark.Comma ts) ts c (behind_sound mark.Comma ts) h)
 
 controlled_count : (comma : Bool) (n : Word) (from to : Expression) (step : Option Expression) →
@@ -312,8 +312,8 @@ controlled_count : (comma : Bool) (n : Word) (from to : Expression) (step : Opti
     control_by comma (counter_text n from to step) ≡ Some (control_of.Counted comma n from to step)
 controlled_count comma n from to step w =
     ap (λ o. or_else o (counted comma (counter_text n from to step)))
-        (no_while comma n (expression from ++ punctuated mark.Comma
-            (expression to ++ maybe_behind mark.Comma (maybe_expression step))))
+    (no_while comma n (expression from ++ punctuated mark.Comma
+    (expression to ++ maybe_behind mark.Comma (maybe_expression step))))
     ∙ counted_again comma n from to step w
 
 controlled_while : (comma : Bool) (x : Expression) → well x ≡ true →
@@ -332,7 +332,7 @@ pub do_sound : (n : Option Word) (ts : Text) (b : BlockForm) → do_of n ts ≡ 
 do_sound n ts b h = mapped (block_of.Do n) (controlled ts) b h (λ c hc is.
     let k = controlled_sound ts c hc in
     is_as block_text well_block (label n ++ block_word block.Do ∷ ts) (block_of.Do n c) b is
-        (ap (λ t. label n ++ block_word block.Do ∷ t) k.spelled) k.kept)
+    (ap (λ t. label n ++ block_word block.Do ∷ t) k.spelled) k.kept)
 
 pub do_again : (n : Option Word) (c : Control) → well_control c ≡ true → do_of n (control_text c) ≡ Some (block_of.Do n c)
 do_again n c w = ap (option_map (block_of.Do n)) (controlled_again c w)
@@ -360,7 +360,7 @@ pub label_sound : (ts : Text) (p : Word × Text) → label_of ts ≡ Some p → 
 label_sound ts p h = chained (λ p. option_map (λ rest. (p.0, rest)) (behind mark.Colon p.1)) (behind_name ts) p h (λ q hq h2.
     mapped (λ rest. (q.0, rest)) (behind mark.Colon q.1) p h2 (λ rest hr is.
     name_sound ts q hq ∙ ap (λ t. terminal.Name q.0 ∷ t) (behind_sound mark.Colon q.1 rest hr)
-        ∙ ap (λ (p : Word × Text). label (Some p.0) ++ p.1) is))
+    ∙ ap (λ (p : Word × Text). label (Some p.0) ++ p.1) is))
 
 -- ---- CASE
 
@@ -371,11 +371,11 @@ case_in_sound ts b h = chained (λ inside. option_and_then case_ranges (bracket 
     mapped (block_of.Case xs) (name_at_end found.1) b h4 (λ n hn is.
     let s = bracket_list_sound ranges inside found.1 found.0 xs hf hr in
     is_as block_text well_block (terminal.Keyword keyword.Case ∷ ts) (block_of.Case xs n) b is
-        (ap (λ t. terminal.Keyword keyword.Case ∷ t) (brackets_before (commas (map range_text xs)) (maybe_named n)
-            ∙ ap (λ rest. punctuated mark.Open (commas (map range_text xs) ++ punctuated mark.Close rest))
-                (sym (name_end_sound found.1 n hn))
-            ∙ ap (punctuated mark.Open) s.0 ∙ sym (behind_sound mark.Open ts inside hi)))
-        s.1))))
+    (ap (λ t. terminal.Keyword keyword.Case ∷ t) (brackets_before (commas (map range_text xs)) (maybe_named n)
+    ∙ ap (λ rest. punctuated mark.Open (commas (map range_text xs) ++ punctuated mark.Close rest))
+    (sym (name_end_sound found.1 n hn))
+    ∙ ap (punctuated mark.Open) s.0 ∙ sym (behind_sound mark.Open ts inside hi)))
+    s.1))))
 
 case_by_sound : (o : Option Text) (ts : Text) (b : BlockForm) →
     ((rest : Text) → o ≡ Some rest → ts ≡ terminal.Name (codes "default") ∷ rest) → case_by o ts ≡ Some b →
@@ -383,8 +383,8 @@ case_by_sound : (o : Option Text) (ts : Text) (b : BlockForm) →
 case_by_sound None ts b there h = case_in_sound ts b h
 case_by_sound (Some rest) ts b there h = mapped block_of.CaseDefault (name_at_end rest) b h (λ n hn is.
     is_as block_text well_block (terminal.Keyword keyword.Case ∷ ts) (block_of.CaseDefault n) b is
-        (ap (λ t. terminal.Keyword keyword.Case ∷ t)
-            (ap (λ t. terminal.Name (codes "default") ∷ t) (sym (name_end_sound rest n hn)) ∙ sym (there rest refl))) refl)
+    (ap (λ t. terminal.Keyword keyword.Case ∷ t)
+    (ap (λ t. terminal.Name (codes "default") ∷ t) (sym (name_end_sound rest n hn)) ∙ sym (there rest refl))) refl)
 
 pub case_sound : (ts : Text) (b : BlockForm) → case_of ts ≡ Some b → IsBlock (terminal.Keyword keyword.Case ∷ ts) b
 case_sound ts b h = case_by_sound (behind_word (codes "default") ts) ts b (word_sound (codes "default") ts) h
@@ -396,7 +396,7 @@ case_again (x ∷ xs) n w =
     ap case_of (brackets_before (commas (map range_text (x ∷ xs))) (maybe_named n))
     ∙ ap (option_and_then case_ranges) (bracket_list_again ranges x xs (maybe_named n) w)
     ∙ ap (option_and_then (λ xs. option_map (block_of.Case xs) (name_at_end (maybe_named n))))
-        (collected_fields ranges (x ∷ xs) w)
+    (collected_fields ranges (x ∷ xs) w)
     ∙ ap (option_map (block_of.Case (x ∷ xs))) (name_end_again n)
 
 -- ---- ELSE
@@ -405,21 +405,21 @@ else_if_sound : (ts : Text) (b : BlockForm) → else_if ts ≡ Some b →
     IsBlock (terminal.Keyword keyword.Else ∷ block_word block.If ∷ ts) b
 else_if_sound ts b h =
     chained (λ p. option_and_then (λ rest. option_map (block_of.ElseIf p.0) (name_at_end rest)) (behind_word (codes "then") p.1))
-        (conditioned ts) b h (λ p hp h2.
+    (conditioned ts) b h (λ p hp h2.
     chained (λ rest. option_map (block_of.ElseIf p.0) (name_at_end rest)) (behind_word (codes "then") p.1) b h2 (λ rest hr h3.
     mapped (block_of.ElseIf p.0) (name_at_end rest) b h3 (λ n hn is.
     let c = conditioned_sound ts p hp in
     let there = word_sound (codes "then") p.1 rest hr ∙ ap (λ t. terminal.Name (codes "then") ∷ t) (name_end_sound rest n hn) in
     is_as block_text well_block (terminal.Keyword keyword.Else ∷ block_word block.If ∷ ts) (block_of.ElseIf p.0 n) b is
-        (ap (λ t. terminal.Keyword keyword.Else ∷ block_word block.If ∷ t)
-            (ap (λ t. condition_text p.0 ++ t) (sym there) ∙ c.spelled)) c.kept)))
+    (ap (λ t. terminal.Keyword keyword.Else ∷ block_word block.If ∷ t)
+    (ap (λ t. condition_text p.0 ++ t) (sym there) ∙ c.spelled)) c.kept)))
 
 else_if_again : (x : Expression) (n : Option Word) → well x ≡ true →
     else_if (condition_text x ++ terminal.Name (codes "then") ∷ maybe_named n) ≡ Some (block_of.ElseIf x n)
 else_if_again x n w =
     ap (option_and_then (λ (p : Expression × Text). option_and_then (λ rest. option_map (block_of.ElseIf p.0) (name_at_end rest))
-        (behind_word (codes "then") p.1)))
-        (conditioned_again x (terminal.Name (codes "then") ∷ maybe_named n) w)
+    (behind_word (codes "then") p.1)))
+    (conditioned_again x (terminal.Name (codes "then") ∷ maybe_named n) w)
     ∙ ap (option_map (block_of.ElseIf x)) (name_end_again n)
 
 else_where_sound : (ts : Text) (b : BlockForm) → else_where ts ≡ Some b →
@@ -427,12 +427,12 @@ else_where_sound : (ts : Text) (b : BlockForm) → else_where ts ≡ Some b →
 else_where_sound ts b h = chosen (is_nil ts) (Some (block_of.ElseWhere None))
     (option_map (λ mask. block_of.ElseWhere (Some mask)) (whole_condition ts)) b h
     (λ is_end h. let q : block_of.ElseWhere None ≡ b = cc in
-      is_as block_text well_block (terminal.Keyword keyword.Else ∷ block_word block.Where ∷ ts) (block_of.ElseWhere None) b q
-          (ap (λ t. terminal.Keyword keyword.Else ∷ block_word block.Where ∷ t) (sym (nil ts is_end))) refl)
+    is_as block_text well_block (terminal.Keyword keyword.Else ∷ block_word block.Where ∷ ts) (block_of.ElseWhere None) b q
+    (ap (λ t. terminal.Keyword keyword.Else ∷ block_word block.Where ∷ t) (sym (nil ts is_end))) refl)
     (λ _ h. mapped (λ mask. block_of.ElseWhere (Some mask)) (whole_condition ts) b h (λ x hx is.
-      let c = whole_condition_sound ts x hx in
-      is_as block_text well_block (terminal.Keyword keyword.Else ∷ block_word block.Where ∷ ts) (block_of.ElseWhere (Some x)) b is
-          (ap (λ t. terminal.Keyword keyword.Else ∷ block_word block.Where ∷ t) c.spelled) c.kept))
+    let c = whole_condition_sound ts x hx in
+    is_as block_text well_block (terminal.Keyword keyword.Else ∷ block_word block.Where ∷ ts) (block_of.ElseWhere (Some x)) b is
+    (ap (λ t. terminal.Keyword keyword.Else ∷ block_word block.Where ∷ t) c.spelled) c.kept))
 
 else_keyed_sound : (k : Keyword) (ts : Text) (b : BlockForm) → else_keyed (k, ts) ≡ Some b →
     IsBlock (terminal.Keyword keyword.Else ∷ terminal.Keyword k ∷ ts) b
@@ -446,7 +446,7 @@ else_by_sound : (o : Option (Keyword × Text)) (ts : Text) (b : BlockForm) →
     IsBlock (terminal.Keyword keyword.Else ∷ ts) b
 else_by_sound None ts b there h = mapped block_of.Else (name_at_end ts) b h (λ n hn is.
     is_as block_text well_block (terminal.Keyword keyword.Else ∷ ts) (block_of.Else n) b is
-        (ap (λ t. terminal.Keyword keyword.Else ∷ t) (sym (name_end_sound ts n hn))) refl)
+    (ap (λ t. terminal.Keyword keyword.Else ∷ t) (sym (name_end_sound ts n hn))) refl)
 else_by_sound (Some p) ts b there h = subst (λ t. IsBlock (terminal.Keyword keyword.Else ∷ t) b) (sym (there p refl))
     (else_keyed_sound p.0 p.1 b h)
 
@@ -470,18 +470,18 @@ else_where_reads x w = ap (option_map (λ mask. block_of.ElseWhere (Some mask)))
 pub end_block_sound : (w : BlockWord) (ts : Text) (b : BlockForm) → end_block w ts ≡ Some b → IsBlock (end_of w ++ ts) b
 end_block_sound block.If ts b h = mapped block_of.EndIf (name_at_end ts) b h (λ n hn is.
     is_as block_text well_block (end_of block.If ++ ts) (block_of.EndIf n) b is
-        (ap (λ t. end_of block.If ++ t) (sym (name_end_sound ts n hn))) refl)
+    (ap (λ t. end_of block.If ++ t) (sym (name_end_sound ts n hn))) refl)
 end_block_sound block.Select ts b h = mapped block_of.EndSelect (name_at_end ts) b h (λ n hn is.
     is_as block_text well_block (end_of block.Select ++ ts) (block_of.EndSelect n) b is
-        (ap (λ t. end_of block.Select ++ t) (sym (name_end_sound ts n hn))) refl)
+    (ap (λ t. end_of block.Select ++ t) (sym (name_end_sound ts n hn))) refl)
 end_block_sound block.Do ts b h = mapped block_of.EndDo (name_at_end ts) b h (λ n hn is.
     is_as block_text well_block (end_of block.Do ++ ts) (block_of.EndDo n) b is
-        (ap (λ t. end_of block.Do ++ t) (sym (name_end_sound ts n hn))) refl)
+    (ap (λ t. end_of block.Do ++ t) (sym (name_end_sound ts n hn))) refl)
 end_block_sound block.Where ts b h =
     let end = more_sound block_of.EndWhere b ts h in
     is_as block_text well_block (end_of block.Where ++ ts) block_of.EndWhere b end.0
-        (ap (λ t. end_of block.Where ++ t) (sym end.1)) refl
+    (ap (λ t. end_of block.Where ++ t) (sym end.1)) refl
 end_block_sound block.Forall ts b h =
     let end = more_sound block_of.EndForall b ts h in
     is_as block_text well_block (end_of block.Forall ++ ts) block_of.EndForall b end.0
-        (ap (λ t. end_of block.Forall ++ t) (sym end.1)) refl
+    (ap (λ t. end_of block.Forall ++ t) (sym end.1)) refl

@@ -1,6 +1,7 @@
 -- All forms: what is read is spelled as the terminals and well formed, and what is well formed is read from what spells it.
 use Rattle.std.proofs.Common.{◌≡◌, true, false, ◌&&◌, List, [], ◌∷◌, ◌++◌, map, Option, Some, None, sym, ◌∙◌, ap, subst, refl, append-nil}
 use Rattle.std.specs.Prelude.{option_map, option_and_then, codes, if◌then◌else◌}
+use Rattle.f95_lexer.specs.declared.token.Token.{Token}
 use Rattle.f95_tree.specs.declared.expression.Expression.{Expression}
 use Rattle.f95_tree.specs.declared.expression.Reference.{Reference}
 use Rattle.f95_tree.specs.declared.terminal.Terminal.TheVariants as terminal
@@ -40,6 +41,8 @@ use Rattle.f95_statements.proofs.ConditionLaws.{condition_text, assigned_sound, 
 use Rattle.f95_statements.proofs.ActionLaws.{action_sound, action_again}
 use Rattle.f95_statements.proofs.ProcedureLaws.{procedure_sound, procedure_again, typed_word_sound, declaration_first, declaration_typed, procedure_first, procedure_typed}
 use Rattle.f95_parser.specs.Reading.{is_then, select_of, do_of, labelled, label_of, case_of, else_of, end_block, end_keyed, end_of, use_of, implicit_of, unit_by, if_by, where_by, forall_by, block_form, keyed_form, named_form, form_by, form_of}
+use Rattle.f95_parser.specs.Tokens.{terminals_of}
+use Rattle.f95_parser.specs.Rules.{IsOfForm, IsFormless}
 use Rattle.f95_parser.proofs.BlockLaws.{is_as, chosen, IsBlock, then_sound, if_block_again, select_sound, select_again, do_sound, do_again, labelled_sound, label_sound, case_sound, case_again, else_sound, else_again, else_if_reads, else_where_reads, end_block_sound}
 use Rattle.f95_parser.proofs.UnitLaws.{IsUnit, use_sound, use_again, implicit_sound, unit_by_sound}
 
@@ -58,7 +61,7 @@ end_keyed_sound : (k : Keyword) (ts : Text) (f : Form) → end_keyed (k, ts) ≡
     IsForm (terminal.Keyword keyword.End ∷ terminal.Keyword k ∷ ts) f
 end_keyed_sound (keyword.Unit w) ts f h = mapped (λ n. of.Unit (unit_of.EndUnit w n)) (name_at_end ts) f h (λ n hn is.
     is_as spell_form well_form (terminal.Keyword keyword.End ∷ unit_word w ∷ ts) (of.Unit (unit_of.EndUnit w n)) f is
-        (ap (λ t. terminal.Keyword keyword.End ∷ unit_word w ∷ t) (sym (name_end_sound ts n hn))) refl)
+    (ap (λ t. terminal.Keyword keyword.End ∷ unit_word w ∷ t) (sym (name_end_sound ts n hn))) refl)
 end_keyed_sound (keyword.Block w) ts f h = mapped of.Block (end_block w ts) f h (λ b hb is.
     as_block (terminal.Keyword keyword.End ∷ block_word w ∷ ts) b f is (end_block_sound w ts b hb))
 end_keyed_sound k ts f h = absurd (cc)
@@ -66,63 +69,63 @@ end_keyed_sound k ts f h = absurd (cc)
 end_form_sound : (ts : Text) (f : Form) → end_of ts ≡ Some f → IsForm (terminal.Keyword keyword.End ∷ ts) f
 end_form_sound ts f h = chosen (is_nil ts) (Some (of.Unit unit_of.End)) (option_and_then end_keyed (behind_keyword ts)) f h
     (λ is_end h. let q : of.Unit unit_of.End ≡ f = cc in
-      is_as spell_form well_form (terminal.Keyword keyword.End ∷ ts) (of.Unit unit_of.End) f q
-          (ap (λ t. terminal.Keyword keyword.End ∷ t) (sym (nil ts is_end))) refl)
+    is_as spell_form well_form (terminal.Keyword keyword.End ∷ ts) (of.Unit unit_of.End) f q
+    (ap (λ t. terminal.Keyword keyword.End ∷ t) (sym (nil ts is_end))) refl)
     (λ _ h. chained end_keyed (behind_keyword ts) f h (λ p hp h2.
-      subst (λ t. IsForm (terminal.Keyword keyword.End ∷ t) f) (sym (keyword_sound ts p hp)) (end_keyed_sound p.0 p.1 f h2)))
+    subst (λ t. IsForm (terminal.Keyword keyword.End ∷ t) f) (sym (keyword_sound ts p hp)) (end_keyed_sound p.0 p.1 f h2)))
 
 if_by_sound : (x : Expression) (ts : Text) (f : Form) → well x ≡ true → if_by (x, ts) ≡ Some f →
     IsForm (block_word block.If ∷ (condition_text x ++ ts)) f
 if_by_sound x ts f w h = chosen (is_then ts) (Some (of.Block (block_of.If None x))) (option_map (of.If x) (action_of ts)) f h
     (λ is_end h. let q : of.Block (block_of.If None x) ≡ f = cc in
-      is_as spell_form well_form (block_word block.If ∷ (condition_text x ++ ts)) (of.Block (block_of.If None x)) f q
-          (ap (λ t. block_word block.If ∷ (condition_text x ++ t)) (sym (then_sound ts is_end))) w)
+    is_as spell_form well_form (block_word block.If ∷ (condition_text x ++ ts)) (of.Block (block_of.If None x)) f q
+    (ap (λ t. block_word block.If ∷ (condition_text x ++ t)) (sym (then_sound ts is_end))) w)
     (λ _ h. mapped (of.If x) (action_of ts) f h (λ a ha is.
-      let c = action_sound ts a ha in
-      is_as spell_form well_form (block_word block.If ∷ (condition_text x ++ ts)) (of.If x a) f is
-          (ap (λ t. block_word block.If ∷ (condition_text x ++ t)) c.spelled) (joined (well x) (well_action a) w c.kept)))
+    let c = action_sound ts a ha in
+    is_as spell_form well_form (block_word block.If ∷ (condition_text x ++ ts)) (of.If x a) f is
+    (ap (λ t. block_word block.If ∷ (condition_text x ++ t)) c.spelled) (joined (well x) (well_action a) w c.kept)))
 
 where_by_sound : (x : Expression) (ts : Text) (f : Form) → well x ≡ true → where_by (x, ts) ≡ Some f →
     IsForm (block_word block.Where ∷ (condition_text x ++ ts)) f
 where_by_sound x ts f w h = chosen (is_nil ts) (Some (of.Block (block_of.Where x)))
     (option_map (λ a. of.Action (act.Where x a)) (assigned ts)) f h
     (λ is_end h. let q : of.Block (block_of.Where x) ≡ f = cc in
-      is_as spell_form well_form (block_word block.Where ∷ (condition_text x ++ ts)) (of.Block (block_of.Where x)) f q
-          (ap (λ t. block_word block.Where ∷ t) (sym (append-nil (condition_text x))
-              ∙ ap (λ t. condition_text x ++ t) (sym (nil ts is_end)))) w)
+    is_as spell_form well_form (block_word block.Where ∷ (condition_text x ++ ts)) (of.Block (block_of.Where x)) f q
+    (ap (λ t. block_word block.Where ∷ t) (sym (append-nil (condition_text x))
+    ∙ ap (λ t. condition_text x ++ t) (sym (nil ts is_end)))) w)
     (λ _ h. mapped (λ a. of.Action (act.Where x a)) (assigned ts) f h (λ a ha is.
-      let c = assigned_sound ts a ha in
-      is_as spell_form well_form (block_word block.Where ∷ (condition_text x ++ ts)) (of.Action (act.Where x a)) f is
-          (ap (λ t. block_word block.Where ∷ (condition_text x ++ t)) c.spelled) (joined (well x) (well_assignment a) w c.kept)))
+    let c = assigned_sound ts a ha in
+    is_as spell_form well_form (block_word block.Where ∷ (condition_text x ++ ts)) (of.Action (act.Where x a)) f is
+    (ap (λ t. block_word block.Where ∷ (condition_text x ++ t)) c.spelled) (joined (well x) (well_assignment a) w c.kept)))
 
 forall_by_sound : (x : Header) (ts : Text) (f : Form) → well_header x ≡ true → forall_by (x, ts) ≡ Some f →
     IsForm (block_word block.Forall ∷ (header_text x ++ ts)) f
 forall_by_sound x ts f w h = chosen (is_nil ts) (Some (of.Block (block_of.Forall x)))
     (option_map (λ a. of.Action (act.Forall x a)) (assigned ts)) f h
     (λ is_end h. let q : of.Block (block_of.Forall x) ≡ f = cc in
-      is_as spell_form well_form (block_word block.Forall ∷ (header_text x ++ ts)) (of.Block (block_of.Forall x)) f q
-          (ap (λ t. block_word block.Forall ∷ t) (sym (append-nil (header_text x))
-              ∙ ap (λ t. header_text x ++ t) (sym (nil ts is_end)))) w)
+    is_as spell_form well_form (block_word block.Forall ∷ (header_text x ++ ts)) (of.Block (block_of.Forall x)) f q
+    (ap (λ t. block_word block.Forall ∷ t) (sym (append-nil (header_text x))
+    ∙ ap (λ t. header_text x ++ t) (sym (nil ts is_end)))) w)
     (λ _ h. mapped (λ a. of.Action (act.Forall x a)) (assigned ts) f h (λ a ha is.
-      let c = assigned_sound ts a ha in
-      is_as spell_form well_form (block_word block.Forall ∷ (header_text x ++ ts)) (of.Action (act.Forall x a)) f is
-          (ap (λ t. block_word block.Forall ∷ (header_text x ++ t)) c.spelled)
-              (joined (well_header x) (well_assignment a) w c.kept)))
+    let c = assigned_sound ts a ha in
+    is_as spell_form well_form (block_word block.Forall ∷ (header_text x ++ ts)) (of.Action (act.Forall x a)) f is
+    (ap (λ t. block_word block.Forall ∷ (header_text x ++ t)) c.spelled)
+    (joined (well_header x) (well_assignment a) w c.kept)))
 
 block_form_sound : (w : BlockWord) (ts : Text) (f : Form) → block_form w ts ≡ Some f → IsForm (block_word w ∷ ts) f
 block_form_sound block.If ts f h = chained if_by (conditioned ts) f h (λ p hp h2.
     let c = conditioned_sound ts p hp in subst (λ t. IsForm (block_word block.If ∷ t) f) c.spelled
-        (if_by_sound p.0 p.1 f c.kept h2))
+    (if_by_sound p.0 p.1 f c.kept h2))
 block_form_sound block.Select ts f h = mapped of.Block (select_of None ts) f h
     (λ b hb is. as_block (block_word block.Select ∷ ts) b f is (select_sound None ts b hb))
 block_form_sound block.Do ts f h = mapped of.Block (do_of None ts) f h
     (λ b hb is. as_block (block_word block.Do ∷ ts) b f is (do_sound None ts b hb))
 block_form_sound block.Where ts f h = chained where_by (conditioned ts) f h (λ p hp h2.
     let c = conditioned_sound ts p hp in subst (λ t. IsForm (block_word block.Where ∷ t) f) c.spelled
-        (where_by_sound p.0 p.1 f c.kept h2))
+    (where_by_sound p.0 p.1 f c.kept h2))
 block_form_sound block.Forall ts f h = chained forall_by (headed ts) f h (λ p hp h2.
     let c = headed_sound ts p hp in subst (λ t. IsForm (block_word block.Forall ∷ t) f) c.spelled
-        (forall_by_sound p.0 p.1 f c.kept h2))
+    (forall_by_sound p.0 p.1 f c.kept h2))
 
 keyed_sound : (k : Keyword) (ts : Text) (f : Form) → keyed_form k ts (terminal.Keyword k ∷ ts) ≡ Some f →
     IsForm (terminal.Keyword k ∷ ts) f
@@ -142,7 +145,7 @@ keyed_sound keyword.Case ts f h = mapped of.Block (case_of ts) f h
 keyed_sound keyword.Contains ts f h =
     let end = more_sound (of.Unit unit_of.Contains) f ts h in
     is_as spell_form well_form (terminal.Keyword keyword.Contains ∷ ts) (of.Unit unit_of.Contains) f end.0
-        (ap (λ t. terminal.Keyword keyword.Contains ∷ t) (sym end.1)) refl
+    (ap (λ t. terminal.Keyword keyword.Contains ∷ t) (sym end.1)) refl
 keyed_sound keyword.Else ts f h = mapped of.Block (else_of ts) f h
     (λ b hb is. as_block (terminal.Keyword keyword.Else ∷ ts) b f is (else_sound ts b hb))
 keyed_sound keyword.End ts f h = end_form_sound ts f h
@@ -232,7 +235,7 @@ where_reads : (x : Expression) (a : Assignment) → well x ≡ true → well_ass
 where_reads x a w k =
     ap (option_and_then where_by) (conditioned_again x (assignment_text a) w)
     ∙ ap (λ b. if b then Some (of.Block (block_of.Where x)) else option_map (λ a. of.Action (act.Where x a))
-        (assigned (assignment_text a))) (assignment_some a)
+    (assigned (assignment_text a))) (assignment_some a)
     ∙ ap (option_map (λ a. of.Action (act.Where x a))) (assigned_again a k)
 
 forall_reads : (x : Header) (a : Assignment) → well_header x ≡ true → well_assignment a ≡ true →
@@ -240,7 +243,7 @@ forall_reads : (x : Header) (a : Assignment) → well_header x ≡ true → well
 forall_reads x a w k =
     ap (option_and_then forall_by) (headed_again x (assignment_text a) w)
     ∙ ap (λ b. if b then Some (of.Block (block_of.Forall x)) else option_map (λ a. of.Action (act.Forall x a))
-        (assigned (assignment_text a))) (assignment_some a)
+    (assigned (assignment_text a))) (assignment_some a)
     ∙ ap (option_map (λ a. of.Action (act.Forall x a))) (assigned_again a k)
 
 action_reads : (a : Action) → well_action a ≡ true → form_of (action_text a) ≡ Some (of.Action a)
@@ -285,10 +288,10 @@ procedure_reads : (ps : List Prefix) (h : Heading) → well_procedure (procedure
     form_of (prefixes_text ps ++ heading_text h) ≡ Some (of.Unit (unit_of.Procedure (procedure ps h)))
 procedure_reads [] (heading_of.Subroutine n dummies) w =
     ap (λ o. option_map of.Unit (option_map unit_of.Procedure o))
-        (procedure_again (procedure [] (heading_of.Subroutine n dummies)) w)
+    (procedure_again (procedure [] (heading_of.Subroutine n dummies)) w)
 procedure_reads [] (heading_of.Function n dummies outcome) w =
     ap (λ o. option_map of.Unit (option_map unit_of.Procedure o))
-        (procedure_again (procedure [] (heading_of.Function n dummies outcome)) w)
+    (procedure_again (procedure [] (heading_of.Function n dummies outcome)) w)
 procedure_reads (prefix_of.Recursive ∷ ps) h w = ap (option_map (λ p. of.Unit (unit_of.Procedure p)))
     (procedure_again (procedure (prefix_of.Recursive ∷ ps) h) w)
 procedure_reads (prefix_of.Pure ∷ ps) h w = ap (option_map (λ p. of.Unit (unit_of.Procedure p)))
@@ -313,3 +316,17 @@ form_again (of.Declaration d) w = ap form_of (declaration_first d) ∙ declarati
 form_again (of.Block b) w = block_reads b w
 form_again (of.Action a) w = action_reads a w
 form_again (of.If x a) w = let ws = both (well x) (well_action a) w in if_reads x a ws.0 ws.1
+
+-- ---- tokens
+
+pub of_form : (tokens : List Token) (form : Form) → form_of (terminals_of tokens) ≡ Some form → IsOfForm tokens form
+of_form tokens form h = let c = form_sound (terminals_of tokens) form h in record { spelled = sym c.spelled; kept = c.kept }
+
+reads_as : (tokens : List Token) (form : Form) → IsOfForm tokens form → form_of (terminals_of tokens) ≡ Some form
+reads_as tokens form is = ap form_of is.spelled ∙ form_again form is.kept
+
+pub formless : (tokens : List Token) → form_of (terminals_of tokens) ≡ None → IsFormless tokens
+formless tokens h form is = let q = sym h ∙ reads_as tokens form is in absurd (cc)
+
+pub one_form : (tokens : List Token) (a b : Form) → IsOfForm tokens a → IsOfForm tokens b → a ≡ b
+one_form tokens a b is_a is_b = let q = sym (reads_as tokens a is_a) ∙ reads_as tokens b is_b in cc

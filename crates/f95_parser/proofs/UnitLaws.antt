@@ -30,11 +30,11 @@ IsUnit = Is unit_text well_unit
 only_sound : (ts : Text) (ns : List Word) → only_of ts ≡ Some ns → only_text (Some ns) ≡ ts
 only_sound ts ns h =
     chained (λ a. option_and_then (λ b. option_and_then (listed name_of) (behind mark.Colon b)) (behind_word (codes "only") a))
-        (behind mark.Comma ts) ns h (λ a ha h2.
+    (behind mark.Comma ts) ns h (λ a ha h2.
     chained (λ b. option_and_then (listed name_of) (behind mark.Colon b)) (behind_word (codes "only") a) ns h2 (λ b hb h3.
     chained (listed name_of) (behind mark.Colon b) ns h3 (λ c hc h4.
     ap (λ t. punctuated mark.Comma (terminal.Name (codes "only") ∷ punctuated mark.Colon t))
-        (listed_sound name_parts c ns h4).spelled
+    (listed_sound name_parts c ns h4).spelled
     ∙ ap (λ t. punctuated mark.Comma (terminal.Name (codes "only") ∷ t)) (sym (behind_sound mark.Colon b c hc))
     ∙ ap (punctuated mark.Comma) (sym (word_sound (codes "only") a b hb)) ∙ sym (behind_sound mark.Comma ts a ha))))
 
@@ -43,11 +43,11 @@ use_named_sound : (n : Word) (ts : Text) (u : UnitForm) → use_named (n, ts) �
 use_named_sound n ts u h = chosen (is_nil ts) (Some (unit_of.Use n None))
     (option_map (λ ns. unit_of.Use n (Some ns)) (only_of ts)) u h
     (λ is_end h. let q : unit_of.Use n None ≡ u = cc in
-      is_as unit_text well_unit (terminal.Keyword keyword.Use ∷ terminal.Name n ∷ ts) (unit_of.Use n None) u q
-          (ap (λ t. terminal.Keyword keyword.Use ∷ terminal.Name n ∷ t) (sym (nil ts is_end))) refl)
+    is_as unit_text well_unit (terminal.Keyword keyword.Use ∷ terminal.Name n ∷ ts) (unit_of.Use n None) u q
+    (ap (λ t. terminal.Keyword keyword.Use ∷ terminal.Name n ∷ t) (sym (nil ts is_end))) refl)
     (λ _ h. mapped (λ ns. unit_of.Use n (Some ns)) (only_of ts) u h (λ ns hns is.
-      is_as unit_text well_unit (terminal.Keyword keyword.Use ∷ terminal.Name n ∷ ts) (unit_of.Use n (Some ns)) u is
-          (ap (λ t. terminal.Keyword keyword.Use ∷ terminal.Name n ∷ t) (only_sound ts ns hns)) refl))
+    is_as unit_text well_unit (terminal.Keyword keyword.Use ∷ terminal.Name n ∷ ts) (unit_of.Use n (Some ns)) u is
+    (ap (λ t. terminal.Keyword keyword.Use ∷ terminal.Name n ∷ t) (only_sound ts ns hns)) refl))
 
 pub use_sound : (ts : Text) (u : UnitForm) → use_of ts ≡ Some u → IsUnit (terminal.Keyword keyword.Use ∷ ts) u
 use_sound ts u h = chained use_named (behind_name ts) u h (λ p hp h2.
@@ -62,8 +62,8 @@ pub implicit_sound : (ts : Text) (u : UnitForm) → implicit_of ts ≡ Some u �
 implicit_sound ts u h = chained (nothing_more unit_of.ImplicitNone) (behind_word (codes "none") ts) u h (λ rest hr he.
     let end = more_sound unit_of.ImplicitNone u rest he in
     is_as unit_text well_unit (terminal.Keyword keyword.Implicit ∷ ts) unit_of.ImplicitNone u end.0
-        (ap (λ t. terminal.Keyword keyword.Implicit ∷ t)
-            (sym (word_sound (codes "none") ts rest hr ∙ ap (λ t. terminal.Name (codes "none") ∷ t) end.1))) refl)
+    (ap (λ t. terminal.Keyword keyword.Implicit ∷ t)
+    (sym (word_sound (codes "none") ts rest hr ∙ ap (λ t. terminal.Name (codes "none") ∷ t) end.1))) refl)
 
 -- a name with nothing behind it
 lone_name : (ts : Text) (n : Word) → option_and_then at_end (behind_name ts) ≡ Some n → ts ≡ named n
@@ -74,13 +74,13 @@ pub unit_by_sound : (w : UnitWord) (ts : Text) (u : UnitForm) → unit_by w ts (
     IsUnit (unit_word w ∷ ts) u
 unit_by_sound unit.Program ts u h = mapped unit_of.Program (option_and_then at_end (behind_name ts)) u h (λ n hn is.
     is_as unit_text well_unit (unit_word unit.Program ∷ ts) (unit_of.Program n) u is
-        (ap (λ t. unit_word unit.Program ∷ t) (sym (lone_name ts n hn))) refl)
+    (ap (λ t. unit_word unit.Program ∷ t) (sym (lone_name ts n hn))) refl)
 unit_by_sound unit.Module ts u h = mapped unit_of.Module (option_and_then at_end (behind_name ts)) u h (λ n hn is.
     is_as unit_text well_unit (unit_word unit.Module ∷ ts) (unit_of.Module n) u is
-        (ap (λ t. unit_word unit.Module ∷ t) (sym (lone_name ts n hn))) refl)
+    (ap (λ t. unit_word unit.Module ∷ t) (sym (lone_name ts n hn))) refl)
 unit_by_sound unit.Subroutine ts u h = mapped unit_of.Procedure (procedure_of (unit_word unit.Subroutine ∷ ts)) u h (λ p hp is.
     let c = procedure_sound (unit_word unit.Subroutine ∷ ts) p hp in is_as unit_text well_unit (unit_word unit.Subroutine ∷ ts)
-        (unit_of.Procedure p) u is c.spelled c.kept)
+    (unit_of.Procedure p) u is c.spelled c.kept)
 unit_by_sound unit.Function ts u h = mapped unit_of.Procedure (procedure_of (unit_word unit.Function ∷ ts)) u h (λ p hp is.
     let c = procedure_sound (unit_word unit.Function ∷ ts) p hp in is_as unit_text well_unit (unit_word unit.Function ∷ ts)
-        (unit_of.Procedure p) u is c.spelled c.kept)
+    (unit_of.Procedure p) u is c.spelled c.kept)

@@ -1,5 +1,5 @@
 -- When tokens are of a form, and the three rules of refusal that they may break.
-use Rattle.std.specs.Prelude.{◌≡◌, ℕ, zero, suc, ◌+◌, ◌-◌, ◌<◌, max, Bool, true, false, List, [], ◌∷◌, Option, Some, None, is_some, if◌then◌else◌}
+use Rattle.std.specs.Prelude.{◌≡◌, ℕ, ◌<◌, max, Bool, true, false, List, [], ◌∷◌}
 use Rattle.f95_lexer.specs.declared.token.Token.{Token}
 use Rattle.f95_lexer.specs.declared.token.Token.TheVariants as token
 use Rattle.f95_tree.specs.declared.form.Form.{Form}
@@ -7,7 +7,6 @@ use Rattle.f95_tree.specs.Forms.{spell_form}
 use Rattle.f95_tree.specs.WellFormed.{well_form}
 use Rattle.f95_parser.specs.Words.{is_left_out}
 use Rattle.f95_parser.specs.Tokens.{terminals_of, open_behind}
-use Rattle.f95_parser.specs.Reading.{form_of}
 use Rattle.a95_base.specs.declared.source.PhaseError.{PhaseError}
 use Rattle.a95_base.specs.declared.source.PhaseError.TheVariants as error
 
@@ -26,9 +25,9 @@ abbrev pub most_open : ℕ → List Token → ℕ
 most_open n [] = n
 most_open n (t ∷ ts) = max n (most_open (open_behind n t) ts)
 
--- the tokens are of no form that is read
+-- the tokens are of no form
 abbrev pub IsFormless : List Token → Type 0
-IsFormless tokens = form_of (terminals_of tokens) ≡ None
+IsFormless tokens = (form : Form) → IsOfForm tokens form → ⊥
 
 -- 11: the tokens are of no form, and the first one begins no statement that is left out
 abbrev pub HasNoForm : List Token → Type 0
@@ -40,7 +39,7 @@ IsLeftOut tokens = IsFormless tokens × (begins_left_out tokens ≡ true)
 
 -- 13: of a form, with more than 64 brackets open at one token
 abbrev pub OpensTooMuch : List Token → Type 0
-OpensTooMuch tokens = (is_some (form_of (terminals_of tokens)) ≡ true) × (64 < most_open 0 tokens)
+OpensTooMuch tokens = (form : Form) × IsOfForm tokens form × (64 < most_open 0 tokens)
 
 -- the rule that a refusal names holds on the statement's line, and no lesser one
 pub data Broken (line : ℕ) (tokens : List Token) : ℕ → ℕ → Type 0 where

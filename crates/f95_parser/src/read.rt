@@ -1,9 +1,7 @@
 //! `read_form`: tokens to a form.
 
 ghost use Rattle.std.specs.Prelude.{◌≡◌, ◌≤◌, ◌<◌, IfOk, IfErr, OnOk};
-ghost use Rattle.f95_parser.specs.Tokens.{terminals_of};
-ghost use Rattle.f95_parser.specs.Reading.{form_of};
-ghost use Rattle.f95_parser.specs.Rules.{begins_left_out, most_open, IsFormless, Refuses};
+ghost use Rattle.f95_parser.specs.Rules.{IsOfForm, IsFormless, Refuses, begins_left_out, most_open};
 
 use crate::form::form_of;
 use crate::tokens::{most_open, terminals_of};
@@ -43,10 +41,11 @@ fn refusal(line: Line, tokens: &[Token]) -> PhaseError
     }
 }
 
-/// The form of a statement's tokens. A refusal is on the statement's line: rule 11 where the tokens are of no form, 12 where
-/// moreover the first one begins a statement that the language leaves out, 13 where more than 64 brackets are open at one token.
+/// The form of a statement's tokens, by the grammar that `f95_tree` prints: what they stand for spells the form, and the form is
+/// well formed. A refusal is on the statement's line: rule 11 where the tokens are of no form, 12 where moreover the first one
+/// begins a statement that the language leaves out, 13 where they are of one, with more than 64 brackets open at one token.
 pub fn read_form(alloc: Global, line: Line, tokens: &[Token]) -> Result<Form, PhaseError>
-    ensures read { IfOk result (λ form. form_of (terminals_of tokens.now) ≡ Some form) }
+    ensures read { IfOk result (IsOfForm tokens.now) }
     ensures few { OnOk result (most_open 0 tokens.now ≤ 64) }
     ensures refused { IfErr result (Refuses line.0 tokens.now) }
 {

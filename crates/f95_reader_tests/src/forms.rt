@@ -173,11 +173,12 @@ const ACTIONS: [(&str, u8); 60] = [
     ("cycle loop", 0),
 ];
 
-const BLOCKS: [(&str, u8); 58] = [
+const BLOCKS: [(&str, u8); 66] = [
     ("if (x) then", 0),
     ("n: if (x) then", 0),
     ("if (x) then n", 11),
     ("if (x) then = 1", 0),
+    ("if (x) then(1) = 2", 0),
     ("n: if (x) then = 1", 11),
     ("if (x) a = 1", 0),
     ("if (x) call s", 0),
@@ -208,6 +209,8 @@ const BLOCKS: [(&str, u8); 58] = [
     ("case (1:2:3)", 11),
     ("case default", 0),
     ("case default n", 0),
+    ("case (default)", 0),
+    ("case default(1)", 11),
     ("end select n", 0),
     ("do", 0),
     ("n: do", 0),
@@ -219,6 +222,8 @@ const BLOCKS: [(&str, u8); 58] = [
     ("do while (x)", 0),
     ("do, while (x)", 0),
     ("do while = 1, 2", 0),
+    ("do, while = 1, 2", 0),
+    ("while: do while (while)", 0),
     ("do while x", 11),
     ("enddo n", 0),
     ("where (m)", 0),
@@ -226,12 +231,15 @@ const BLOCKS: [(&str, u8); 58] = [
     ("where (m) call s", 11),
     ("else where", 0),
     ("elsewhere (m)", 0),
+    ("elsewhere n", 11),
+    ("n: where (m)", 11),
     ("end where", 0),
     ("end where n", 11),
     ("forall (i = 1:2)", 0),
     ("forall (i = 1:2:3, j = 1:4, i > j) a(i, j) = 1", 0),
     ("forall (i > 1)", 11),
     ("end forall", 0),
+    ("end forall n", 11),
 ];
 
 const EXPRESSIONS: [(&str, u8); 40] = [

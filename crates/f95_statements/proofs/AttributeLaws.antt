@@ -1,6 +1,30 @@
 -- Attributes, one after another: what is read is spelled as the terminals, and what is spelled is read.
-use Rattle.std.proofs.Common.{◌≡◌, ℕ, zero, suc, length, Bool, true, false, ◌&&◌, List, [], ◌∷◌, ◌++◌, map, Option, Some, None,
-    sym, ◌∙◌, ap, subst, refl, append_assoc, codes}
+use Rattle.std.proofs.Common.{
+  ◌≡◌,
+  ℕ,
+  zero,
+  suc,
+  length,
+  Bool,
+  true,
+  false,
+  ◌&&◌,
+  List,
+  [],
+  ◌∷◌,
+  ◌++◌,
+  map,
+  Option,
+  Some,
+  None,
+  sym,
+  ◌∙◌,
+  ap,
+  subst,
+  refl,
+  append_assoc,
+  codes,
+}
 use Rattle.std.specs.Prelude.{option_map, option_and_then, if◌then◌else◌}
 use Rattle.f95_tree.specs.declared.expression.Item.{Item}
 use Rattle.f95_tree.specs.declared.declaration.Attribute.{Attribute}
@@ -25,8 +49,21 @@ use Rattle.f95_parts.specs.Parts.{dims_of}
 use Rattle.f95_parts.proofs.ViewLaws.{behind_sound, name_sound, word_sound}
 use Rattle.f95_parts.proofs.BoundLaws.{dim_item, dims_sound, dims_again, dims_spelled, dims_well}
 use Rattle.f95_parts.proofs.ListLaws.{Parts, parts_of, within_list_sound, within_list_again, collected_inside}
-use Rattle.f95_statements.specs.Declarations.{intent_named, behind_both, one_word, intent_at, closed_intent, intent_of,
-    dimension_in, dimension_of, attribute_named, next_attribute, by_next, attributes_in, attributes_of}
+use Rattle.f95_statements.specs.Declarations.{
+  intent_named,
+  behind_both,
+  one_word,
+  intent_at,
+  closed_intent,
+  intent_of,
+  dimension_in,
+  dimension_of,
+  attribute_named,
+  next_attribute,
+  by_next,
+  attributes_in,
+  attributes_of,
+}
 use Rattle.f95_statements.proofs.AttributeSteps.{attribute_stop, attribute_step}
 use Rattle.f95_statements.proofs.TypeLaws.{Leads, same_word}
 
@@ -41,7 +78,7 @@ intent_named_sound n i h =
     else (if is (codes "inout") n then Some intent.InOut else None))) ≡ Some i → named n ≡ intent_text i) (is (codes "in") n)
     (λ yes h. let q : intent.In ≡ i = cc in ap named (same_word n (codes "in") yes) ∙ ap intent_text q)
     (λ _. by_test (λ b. (if b then Some intent.Out else (if is (codes "inout") n then Some intent.InOut else None)) ≡ Some i →
-        named n ≡ intent_text i) (is (codes "out") n)
+    named n ≡ intent_text i) (is (codes "out") n)
     (λ yes h. let q : intent.Out ≡ i = cc in ap named (same_word n (codes "out") yes) ∙ ap intent_text q)
     (λ _. by_test (λ b. (if b then Some intent.InOut else None) ≡ Some i → named n ≡ intent_text i) (is (codes "inout") n)
     (λ yes h. let q : intent.InOut ≡ i = cc in ap named (same_word n (codes "inout") yes) ∙ ap intent_text q)
@@ -71,11 +108,11 @@ intent_sound ts p h = chained (λ inside.
     mapped (λ rest. (attribute.Intent q.0, rest)) (behind mark.Close q.1) p h3 (λ rest hr is.
     subst (AttributeIn (terminal.Name (codes "intent") ∷ ts)) is record {
       spelled =
-        ap (λ t. terminal.Name (codes "intent") ∷ punctuated mark.Open t)
-            (append_assoc (intent_text q.0) (punctuated mark.Close []) rest
+          ap (λ t. terminal.Name (codes "intent") ∷ punctuated mark.Open t)
+          (append_assoc (intent_text q.0) (punctuated mark.Close []) rest
           ∙ ap (λ t. intent_text q.0 ++ t) (sym (behind_sound mark.Close q.1 rest hr))
-              ∙ intent_at_sound (behind_both inside) inside q refl hq)
-        ∙ ap (λ t. terminal.Name (codes "intent") ∷ t) (sym (behind_sound mark.Open ts inside hi));
+          ∙ intent_at_sound (behind_both inside) inside q refl hq)
+          ∙ ap (λ t. terminal.Name (codes "intent") ∷ t) (sym (behind_sound mark.Open ts inside hi));
       kept = refl;
     })))
 
@@ -102,11 +139,11 @@ dimension_sound ts p h = chained (λ inside.
     let d = dims_sound xs dims hds in
     subst (AttributeIn (terminal.Name (codes "dimension") ∷ ts)) is record {
       spelled =
-        ap (λ t. terminal.Name (codes "dimension") ∷ (t ++ found.1)) (sym (dims_spelled dims)
-            ∙ sym (ap (λ xs. in_brackets (commas (map item xs))) d.0))
-        ∙ ap (λ t. terminal.Name (codes "dimension") ∷ punctuated mark.Open t)
-            (append_assoc (commas (map item xs)) (punctuated mark.Close []) found.1 ∙ l.0)
-        ∙ ap (λ t. terminal.Name (codes "dimension") ∷ t) (sym (behind_sound mark.Open ts inside hi));
+          ap (λ t. terminal.Name (codes "dimension") ∷ (t ++ found.1)) (sym (dims_spelled dims)
+          ∙ sym (ap (λ xs. in_brackets (commas (map item xs))) d.0))
+          ∙ ap (λ t. terminal.Name (codes "dimension") ∷ punctuated mark.Open t)
+          (append_assoc (commas (map item xs)) (punctuated mark.Close []) found.1 ∙ l.0)
+          ∙ ap (λ t. terminal.Name (codes "dimension") ∷ t) (sym (behind_sound mark.Open ts inside hi));
       kept = joined (some dims) (all (map well_dim dims)) d.1 (sym (dims_well dims) ∙ sym (ap (λ xs. all (map well_item xs)) d.0)
           ∙ l.1);
     }))))
@@ -121,7 +158,7 @@ dimension_again dims rest w =
     ∙ ap (λ t. option_and_then dimension_in (bracket t)) (append_assoc (commas (map item xs)) (punctuated mark.Close []) rest)
     ∙ ap (option_and_then dimension_in) (within_list_again item_parts xs rest wells)
     ∙ ap (λ o. option_map (λ dims. (attribute.Dimension dims, rest)) (option_and_then dims_of o))
-        (collected_inside item_parts xs wells)
+    (collected_inside item_parts xs wells)
     ∙ ap (option_map (λ dims. (attribute.Dimension dims, rest))) (dims_again dims ws.0)
 
 -- ---- one attribute
@@ -129,27 +166,33 @@ dimension_again dims rest w =
 named_sound : (q : Word × Text) (p : Attribute × Text) → attribute_named q ≡ Some p → AttributeIn (terminal.Name q.0 ∷ q.1) p
 named_sound q p h =
     by_test (λ b. (if b then Some (attribute.Parameter, q.1) else
-        (if is (codes "allocatable") q.0 then Some (attribute.Allocatable, q.1)
+    (if is (codes "allocatable") q.0 then Some (attribute.Allocatable, q.1)
     else (if is (codes "dimension") q.0 then dimension_of q.1 else (if is (codes "intent") q.0 then intent_of q.1 else None)))) ≡
-        Some p → AttributeIn (terminal.Name q.0 ∷ q.1) p)
-      (is (codes "parameter") q.0)
+    Some p → AttributeIn (terminal.Name q.0 ∷ q.1) p)
+    (is (codes "parameter") q.0)
     (λ yes h. let e : (attribute.Parameter, q.1) ≡ p = cc in
-      subst (AttributeIn (terminal.Name q.0 ∷ q.1)) e record { spelled =
-          ap (λ n. terminal.Name n ∷ q.1) (sym (same_word q.0 (codes "parameter") yes)); kept = refl })
+    subst (AttributeIn (terminal.Name q.0 ∷ q.1)) e record {
+      spelled =
+          ap (λ n. terminal.Name n ∷ q.1) (sym (same_word q.0 (codes "parameter") yes));
+      kept = refl;
+    })
     (λ _. by_test (λ b. (if b then Some (attribute.Allocatable, q.1)
     else (if is (codes "dimension") q.0 then dimension_of q.1 else (if is (codes "intent") q.0 then intent_of q.1 else None))) ≡
-        Some p → AttributeIn (terminal.Name q.0 ∷ q.1) p)
-      (is (codes "allocatable") q.0)
+    Some p → AttributeIn (terminal.Name q.0 ∷ q.1) p)
+    (is (codes "allocatable") q.0)
     (λ yes h. let e : (attribute.Allocatable, q.1) ≡ p = cc in
-      subst (AttributeIn (terminal.Name q.0 ∷ q.1)) e record { spelled =
-          ap (λ n. terminal.Name n ∷ q.1) (sym (same_word q.0 (codes "allocatable") yes)); kept = refl })
+    subst (AttributeIn (terminal.Name q.0 ∷ q.1)) e record {
+      spelled =
+          ap (λ n. terminal.Name n ∷ q.1) (sym (same_word q.0 (codes "allocatable") yes));
+      kept = refl;
+    })
     (λ _. by_test (λ b. (if b then dimension_of q.1 else (if is (codes "intent") q.0 then intent_of q.1 else None)) ≡ Some p →
-        AttributeIn (terminal.Name q.0 ∷ q.1) p)
-      (is (codes "dimension") q.0)
+    AttributeIn (terminal.Name q.0 ∷ q.1) p)
+    (is (codes "dimension") q.0)
     (λ yes h. subst (λ n.
-        AttributeIn (terminal.Name n ∷ q.1) p) (sym (same_word q.0 (codes "dimension") yes)) (dimension_sound q.1 p h))
+    AttributeIn (terminal.Name n ∷ q.1) p) (sym (same_word q.0 (codes "dimension") yes)) (dimension_sound q.1 p h))
     (λ _. by_test (λ b. (if b then intent_of q.1 else None) ≡ Some p →
-        AttributeIn (terminal.Name q.0 ∷ q.1) p) (is (codes "intent") q.0)
+    AttributeIn (terminal.Name q.0 ∷ q.1) p) (is (codes "intent") q.0)
     (λ yes h. subst (λ n. AttributeIn (terminal.Name n ∷ q.1) p) (sym (same_word q.0 (codes "intent") yes)) (intent_sound q.1 p h))
     (λ _ h. absurd (cc))))) h
 
@@ -212,6 +255,6 @@ attributes_again (a ∷ more) done rest w stops =
     let ws = both (well_attribute a) (all (map well_attribute more)) w in
     let text = behind_commas (map attribute_text more) ++ rest in
     ap (λ t. attributes_of done (punctuated mark.Comma t))
-        (append_assoc (attribute_text a) (behind_commas (map attribute_text more)) rest)
+    (append_assoc (attribute_text a) (behind_commas (map attribute_text more)) rest)
     ∙ attribute_step done (behind_comma a ++ text) (a, text) (next_again a text ws.0)
     ∙ attributes_again more (a ∷ done) rest ws.1 stops

@@ -1,6 +1,29 @@
 -- Declarations: what is read is spelled as the terminals, and what is spelled is read.
-use Rattle.std.proofs.Common.{◌≡◌, Bool, true, false, ◌&&◌, ◌||◌, not, reverse, List, [], ◌∷◌, ◌++◌, map, Option, Some, None, sym,
-    ◌∙◌, ap, subst, refl, append_assoc, append-nil}
+use Rattle.std.proofs.Common.{
+  ◌≡◌,
+  Bool,
+  true,
+  false,
+  ◌&&◌,
+  ◌||◌,
+  not,
+  reverse,
+  List,
+  [],
+  ◌∷◌,
+  ◌++◌,
+  map,
+  Option,
+  Some,
+  None,
+  sym,
+  ◌∙◌,
+  ap,
+  subst,
+  refl,
+  append_assoc,
+  append-nil,
+}
 use Rattle.std.specs.Prelude.{option_map, option_and_then, if◌then◌else◌}
 use Rattle.std.proofs.lemmas.List.{reverse-append, reverse-reverse}
 use Rattle.f95_tree.specs.declared.declaration.Attribute.{Attribute}
@@ -20,8 +43,17 @@ use Rattle.f95_parts.proofs.ViewLaws.{behind_sound}
 use Rattle.f95_parts.proofs.EntityLaws.{entity_field}
 use Rattle.f95_parts.proofs.Instances.{entity_parts}
 use Rattle.f95_parts.proofs.ListLaws.{Is, row_list_sound, row_list_again}
-use Rattle.f95_statements.specs.Declarations.{declaration, entities_of, no_initials, bare, declared_by, declared, declaration_of,
-    next_attribute, attributes_of}
+use Rattle.f95_statements.specs.Declarations.{
+  declaration,
+  entities_of,
+  no_initials,
+  bare,
+  declared_by,
+  declared,
+  declaration_of,
+  next_attribute,
+  attributes_of,
+}
 use Rattle.f95_statements.proofs.AttributeSteps.{attribute_stop}
 use Rattle.f95_statements.proofs.AttributeLaws.{Run, attributes_sound, attributes_again}
 
@@ -60,7 +92,7 @@ DeclarationIn t ts d = Is declaration_text well_declaration (type_text t ++ ts) 
 colons_sound : (t : TypeSpec) (found : List Attribute) (ts rest more : Text) (d : Declaration) → well_type t ≡ true →
     Run [] found ts rest →
     rest ≡ punctuated mark.DoubleColon more → option_map (declaration t (reverse found) true) (entities_of more) ≡ Some d →
-        DeclarationIn t ts d
+    DeclarationIn t ts d
 colons_sound t found ts rest more d w run is h = mapped (declaration t (reverse found) true) (entities_of more) d h (λ es he de.
     let s = entities_sound more es he in
     let ws = both (some es) (well_entities es) s.kept in
@@ -68,7 +100,7 @@ colons_sound t found ts rest more d w run is h = mapped (declaration t (reverse 
     subst (DeclarationIn t ts) (ap (λ attributes. declaration t attributes true es) (sym order) ∙ de) record {
       spelled = ap (λ u. type_text t ++ u)
           (ap (λ u. behind_commas (map attribute_text run.front) ++ u) (ap (punctuated mark.DoubleColon) s.spelled ∙ sym is)
-              ∙ run.spelled);
+          ∙ run.spelled);
       kept = joined (well_type t) (all (map well_attribute run.front) && (some es && (well_entities es && true))) w
           (joined (all (map well_attribute run.front)) (some es && (well_entities es && true)) run.kept
           (joined (some es) (well_entities es && true) ws.0 (joined (well_entities es) true ws.1 refl)));
@@ -115,7 +147,7 @@ behind_declared d = behind_commas (map attribute_text d.attributes) ++ (colons_t
 again_colons : (t : TypeSpec) (attributes : List Attribute) (es : List Entity) → all (map well_attribute attributes) ≡ true →
     some es ≡ true → well_entities es ≡ true →
     declaration_of t (behind_commas (map attribute_text attributes) ++ punctuated mark.DoubleColon (entities_text es)) ≡
-        Some (declaration t attributes true es)
+    Some (declaration t attributes true es)
 again_colons t attributes es wa h we =
     ap (declared t) (attributes_again attributes [] (punctuated mark.DoubleColon (entities_text es)) wa refl)
     ∙ ap (option_map (declaration t (reverse (onto attributes [])) true)) (entities_again es h we)

@@ -1,6 +1,32 @@
 -- Statements that begin procedures: what is read is spelled as the terminals, and what is spelled is read.
-use Rattle.std.proofs.Common.{◌≡◌, ℕ, Bool, true, false, ◌&&◌, ◌||◌, ◌==◌, not, reverse, List, [], ◌∷◌, ◌++◌, map, Option, Some,
-    None, sym, ◌∙◌, ap, subst, refl, append_assoc, append-nil, codes}
+use Rattle.std.proofs.Common.{
+  ◌≡◌,
+  ℕ,
+  Bool,
+  true,
+  false,
+  ◌&&◌,
+  ◌||◌,
+  ◌==◌,
+  not,
+  reverse,
+  List,
+  [],
+  ◌∷◌,
+  ◌++◌,
+  map,
+  Option,
+  Some,
+  None,
+  sym,
+  ◌∙◌,
+  ap,
+  subst,
+  refl,
+  append_assoc,
+  append-nil,
+  codes,
+}
 use Rattle.std.specs.Prelude.{option_map, option_and_then, if◌then◌else◌}
 use Rattle.f95_tree.specs.declared.declaration.Attribute.{Attribute}
 use Rattle.f95_tree.specs.declared.declaration.Declaration.{Declaration}
@@ -26,10 +52,31 @@ use Rattle.f95_tree.specs.declared.terminal.PrefixWord.TheVariants as prefix_nam
 use Rattle.f95_tree.specs.declared.terminal.Punctuation.TheVariants as mark
 use Rattle.f95_tree.specs.Spelling.{Text, punctuated, commas, in_brackets}
 use Rattle.f95_tree.specs.Grades.{all}
-use Rattle.f95_tree.specs.Forms.{Word, named, names, type_text, declaration_text, unit_word, prefix_text, prefixes_text,
-    maybe_dummies, result_text, heading_text, spell_form}
-use Rattle.f95_tree.specs.WellFormed.{well_type, well_declaration, prefix_kind, is_among, distinct, well_prefix, well_heading,
-    well_procedure, well_form}
+use Rattle.f95_tree.specs.Forms.{
+  Word,
+  named,
+  names,
+  type_text,
+  declaration_text,
+  unit_word,
+  prefix_text,
+  prefixes_text,
+  maybe_dummies,
+  result_text,
+  heading_text,
+  spell_form,
+}
+use Rattle.f95_tree.specs.WellFormed.{
+  well_type,
+  well_declaration,
+  prefix_kind,
+  is_among,
+  distinct,
+  well_prefix,
+  well_heading,
+  well_procedure,
+  well_form,
+}
 use Rattle.f95_expressions.specs.declared.pending.Field.{Field}
 use Rattle.f95_expressions.specs.Machine.{bracket}
 use Rattle.f95_expressions.proofs.Lists.{both, joined, by_test, onto, onto_append}
@@ -42,11 +89,42 @@ use Rattle.f95_parts.proofs.ListLaws.{Is, within_list_sound, within_list_again, 
 use Rattle.f95_parts.proofs.Instances.{always, all_names}
 use Rattle.f95_parts.proofs.Instances as instance
 use Rattle.f95_statements.specs.Actions.{whole_bracket}
-use Rattle.f95_statements.specs.Declarations.{type_of, declaration, declaration_of, names_in, dummies_of, subroutine_of,
-    result_name, result_of, function_in, function_of, heading_by, as_prefix, or_more, prefixes_of, procedure, kept,
-    headed_procedure, procedure_behind, typed_procedure, procedure_keyed, procedure_from, procedure_of, is_keyed, typed_form}
-use Rattle.f95_statements.proofs.TypeLaws.{Leads, begins_length, word_of, behind_type, type_terminal, type_spelled, type_sound,
-    type_again}
+use Rattle.f95_statements.specs.Declarations.{
+  type_of,
+  declaration,
+  declaration_of,
+  names_in,
+  dummies_of,
+  subroutine_of,
+  result_name,
+  result_of,
+  function_in,
+  function_of,
+  heading_by,
+  as_prefix,
+  or_more,
+  prefixes_of,
+  procedure,
+  kept,
+  headed_procedure,
+  procedure_behind,
+  typed_procedure,
+  procedure_keyed,
+  procedure_from,
+  procedure_of,
+  is_keyed,
+  typed_form,
+}
+use Rattle.f95_statements.proofs.TypeLaws.{
+  Leads,
+  begins_length,
+  word_of,
+  behind_type,
+  type_terminal,
+  type_spelled,
+  type_sound,
+  type_again,
+}
 use Rattle.f95_statements.proofs.DeclarationLaws.{in_order, behind_declared, declared_type, declaration_sound, declaration_again}
 
 -- ---- dummies
@@ -58,11 +136,11 @@ names_sound inside rest fs ns hf hn = (within_list_sound instance.names inside r
 -- names in brackets are read before any rest
 names_again : {A : Type 0} (make : List Word × Text → Option A) (ns : List Word) (rest : Text) →
     option_and_then (λ (found : List Field × Text).
-        option_and_then (λ ns. make (ns, found.1)) (names_in found.0)) (bracket (names ns ++ punctuated mark.Close rest)) ≡
-        make (ns, rest)
+    option_and_then (λ ns. make (ns, found.1)) (names_in found.0)) (bracket (names ns ++ punctuated mark.Close rest)) ≡
+    make (ns, rest)
 names_again make ns rest =
     ap (option_and_then (λ (found : List Field × Text). option_and_then (λ ns. make (ns, found.1)) (names_in found.0)))
-      (within_list_again instance.names ns rest (all_names ns))
+    (within_list_again instance.names ns rest (all_names ns))
     ∙ ap (option_and_then (λ (ns : List Word). make (ns, rest))) (collected_inside instance.names ns (all_names ns))
 
 whole_names_sound : (ts : Text) (ns : List Word) → option_and_then names_in (whole_bracket ts) ≡ Some ns →
@@ -72,21 +150,21 @@ whole_names_sound ts ns h = chained names_in (whole_bracket ts) ns h (λ fs hfs 
     chained at_end (bracket inside) fs hb (λ found hf he.
     let end = end_sound found fs he in
     ap (punctuated mark.Open) (ap (λ rest. names ns ++ punctuated mark.Close rest) (sym end.1)
-      ∙ names_sound inside found.1 found.0 ns hf (ap names_in end.0 ∙ hns)) ∙ sym (behind_sound mark.Open ts inside hi))))
+    ∙ names_sound inside found.1 found.0 ns hf (ap names_in end.0 ∙ hns)) ∙ sym (behind_sound mark.Open ts inside hi))))
 
 dummies_sound : (ts : Text) (d : Option (List Word)) → dummies_of ts ≡ Some d → maybe_dummies d ≡ ts
 dummies_sound ts d h =
     by_test (λ b. (if b then Some None else option_map Some (option_and_then names_in (whole_bracket ts))) ≡ Some d →
-        maybe_dummies d ≡ ts) (is_nil ts)
+    maybe_dummies d ≡ ts) (is_nil ts)
     (λ e h. let q : None ≡ d = cc in sym (ap maybe_dummies q) ∙ sym (nil ts e))
     (λ _ h. mapped Some (option_and_then names_in (whole_bracket ts)) d h (λ ns hn is. sym (ap maybe_dummies is)
-        ∙ whole_names_sound ts ns hn)) h
+    ∙ whole_names_sound ts ns hn)) h
 
 dummies_again : (d : Option (List Word)) → dummies_of (maybe_dummies d) ≡ Some d
 dummies_again None = refl
 dummies_again (Some ns) =
     ap (λ o. option_map Some (option_and_then names_in (option_and_then at_end o)))
-      (within_list_again instance.names ns [] (all_names ns))
+    (within_list_again instance.names ns [] (all_names ns))
     ∙ ap (option_map Some) (collected_inside instance.names ns (all_names ns))
 
 -- ---- results
@@ -94,16 +172,16 @@ dummies_again (Some ns) =
 result_name_sound : (ts : Text) (n : Word) → result_name ts ≡ Some n → result_text (Some n) ≡ ts
 result_name_sound ts n h =
     chained (λ inside. option_and_then (λ p.
-        option_and_then (λ rest. nothing_more p.0 rest) (behind mark.Close p.1)) (behind_name inside))
-      (option_and_then (behind mark.Open) (behind_word (codes "result") ts)) n h (λ inside hi h2.
+    option_and_then (λ rest. nothing_more p.0 rest) (behind mark.Close p.1)) (behind_name inside))
+    (option_and_then (behind mark.Open) (behind_word (codes "result") ts)) n h (λ inside hi h2.
     chained (behind mark.Open) (behind_word (codes "result") ts) inside hi (λ more hm ho.
     chained (λ p. option_and_then (λ rest. nothing_more p.0 rest) (behind mark.Close p.1)) (behind_name inside) n h2 (λ p hp h3.
     chained (λ rest. nothing_more p.0 rest) (behind mark.Close p.1) n h3 (λ rest hr h4.
     let m = more_sound p.0 n rest h4 in
     sym (word_sound (codes "result") ts more hm
-        ∙ ap (λ t. terminal.Name (codes "result") ∷ t) (behind_sound mark.Open more inside ho
-      ∙ ap (punctuated mark.Open) (name_sound inside p hp ∙ ap (λ n. terminal.Name n ∷ p.1) m.0
-      ∙ ap (λ t. terminal.Name n ∷ t) (behind_sound mark.Close p.1 rest hr ∙ ap (punctuated mark.Close) m.1))))))))
+    ∙ ap (λ t. terminal.Name (codes "result") ∷ t) (behind_sound mark.Open more inside ho
+    ∙ ap (punctuated mark.Open) (name_sound inside p hp ∙ ap (λ n. terminal.Name n ∷ p.1) m.0
+    ∙ ap (λ t. terminal.Name n ∷ t) (behind_sound mark.Close p.1 rest hr ∙ ap (punctuated mark.Close) m.1))))))))
 
 result_sound : (ts : Text) (o : Option Word) → result_of ts ≡ Some o → result_text o ≡ ts
 result_sound ts o h = by_test (λ b. (if b then Some None else option_map Some (result_name ts)) ≡ Some o →
@@ -126,8 +204,8 @@ function_sound p h hs = chained (λ inside.
     mapped (heading.Function p.0 ns) (result_of found.1) h h4 (λ o ho is.
     sym (ap heading_text is)
     ∙ ap (λ t. unit_word unit.Function ∷ terminal.Name p.0 ∷ punctuated mark.Open t)
-        (append_assoc (names ns) (punctuated mark.Close []) (result_text o)
-      ∙ ap (λ t. names ns ++ punctuated mark.Close t) (result_sound found.1 o ho) ∙ names_sound inside found.1 found.0 ns hf hns)
+    (append_assoc (names ns) (punctuated mark.Close []) (result_text o)
+    ∙ ap (λ t. names ns ++ punctuated mark.Close t) (result_sound found.1 o ho) ∙ names_sound inside found.1 found.0 ns hf hns)
     ∙ ap (λ t. unit_word unit.Function ∷ terminal.Name p.0 ∷ t) (sym (behind_sound mark.Open p.1 inside hi))))))
 
 heading_sound : (w : UnitWord) (ts : Text) (h : Heading) → heading_by w ts ≡ Some h → heading_text h ≡ unit_word w ∷ ts
@@ -145,9 +223,9 @@ heading_again done (heading.Subroutine n d) =
     ap (λ o. option_and_then (λ h. kept (procedure (reverse done) h)) (option_map (heading.Subroutine n) o)) (dummies_again d)
 heading_again done (heading.Function n ns o) =
     ap (λ t. option_and_then (λ h. kept (procedure (reverse done) h)) (option_and_then (function_in n) (bracket t)))
-      (append_assoc (names ns) (punctuated mark.Close []) (result_text o))
+    (append_assoc (names ns) (punctuated mark.Close []) (result_text o))
     ∙ ap (option_and_then (λ h. kept (procedure (reverse done) h)))
-      (names_again (λ (p : List Word × Text). option_map (heading.Function n p.0) (result_of p.1)) ns (result_text o))
+    (names_again (λ (p : List Word × Text). option_map (heading.Function n p.0) (result_of p.1)) ns (result_text o))
     ∙ ap (λ x. option_and_then (λ h. kept (procedure (reverse done) h)) (option_map (heading.Function n ns) x)) (result_again o)
 
 -- where no prefix stands the heading is read at once
@@ -227,7 +305,7 @@ kept_sound p q h = by_test (λ b. (if b then Some p else None) ≡ Some q → (p
 
 begun_sound : (ps : List Prefix) (w : UnitWord) (ts : Text) (q : Procedure) → all (map well_prefix ps) ≡ true →
     option_and_then (λ h. kept (procedure (reverse (onto ps [])) h)) (heading_by w ts) ≡ Some q →
-        ProcedureIn (prefixes_text ps ++ unit_word w ∷ ts) q
+    ProcedureIn (prefixes_text ps ++ unit_word w ∷ ts) q
 begun_sound ps w ts q a h = chained (λ h. kept (procedure (reverse (onto ps [])) h)) (heading_by w ts) q h (λ begins hh hk.
     let k = kept_sound (procedure (reverse (onto ps [])) begins) q hk in
     subst (ProcedureIn (prefixes_text ps ++ unit_word w ∷ ts)) (ap (λ ps. procedure ps begins) (sym (in_order ps)) ∙ k.0) record {
@@ -259,12 +337,12 @@ typed_sound ps p q a w h =
     let front : List Prefix = here ∷ r.front in
     let newest = r.newest ∙ sym (onto_append ps front []) in
     let text = ap (λ (t : Text). t ++ found.1) (prefixes_joined ps front)
-        ∙ append_assoc (prefixes_text ps) (prefixes_text front) found.1
-        ∙ ap (λ (t : Text). prefixes_text ps ++ t) (append_assoc (type_text p.0) (prefixes_text r.front) found.1
-            ∙ ap (λ (t : Text). type_text p.0 ++ t) r.spelled) in
+    ∙ append_assoc (prefixes_text ps) (prefixes_text front) found.1
+    ∙ ap (λ (t : Text). prefixes_text ps ++ t) (append_assoc (type_text p.0) (prefixes_text r.front) found.1
+    ∙ ap (λ (t : Text). type_text p.0 ++ t) r.spelled) in
     subst (λ t. ProcedureIn t q) text (behind_prefixes (ps ++ front) found.1 q
-      (all_joined ps front a (joined (well_type p.0) (all (map well_prefix r.front)) w r.kept))
-          (ap (λ d. procedure_behind (d, found.1)) (sym newest) ∙ h))
+    (all_joined ps front a (joined (well_type p.0) (all (map well_prefix r.front)) w r.kept))
+    (ap (λ d. procedure_behind (d, found.1)) (sym newest) ∙ h))
 
 keyed_sound : (ps : List Prefix) (p : Keyword × Text) (q : Procedure) → all (map well_prefix ps) ≡ true →
     procedure_keyed (onto ps []) p ≡ Some q →
@@ -280,9 +358,9 @@ procedure_sound ts q h =
     let found = prefixes_of [] ts in
     let r = prefix_run [] ts in
     subst (λ t. ProcedureIn t q) r.spelled (chained (procedure_keyed (onto r.front [])) (behind_keyword found.1) q
-      (ap (λ d. procedure_from (d, found.1)) (sym r.newest) ∙ h) (λ p hp h2.
-      subst (λ t. ProcedureIn (prefixes_text r.front ++ t) q) (sym (keyword_sound found.1 p hp))
-          (keyed_sound r.front p q r.kept h2)))
+    (ap (λ d. procedure_from (d, found.1)) (sym r.newest) ∙ h) (λ p hp h2.
+    subst (λ t. ProcedureIn (prefixes_text r.front ++ t) q) (sym (keyword_sound found.1 p hp))
+    (keyed_sound r.front p q r.kept h2)))
 
 -- ---- what is spelled
 
@@ -328,7 +406,7 @@ not_true false h = refl
 -- a type is parted from the prefixes behind it
 type_first : (t : TypeSpec) (ps : List Prefix) (h : Heading) →
     prefixes_text (prefix.«Type» t ∷ ps) ++ heading_text h ≡
-        type_terminal (word_of t) ∷ (behind_type t ++ (prefixes_text ps ++ heading_text h))
+    type_terminal (word_of t) ∷ (behind_type t ++ (prefixes_text ps ++ heading_text h))
 type_first t ps h = append_assoc (type_text t) (prefixes_text ps) (heading_text h)
     ∙ ap (λ u. u ++ (prefixes_text ps ++ heading_text h)) (type_spelled t)
 
@@ -343,10 +421,10 @@ from_again done (prefix.Elemental ∷ ps) h a d =
     from_again (prefix.Elemental ∷ done) ps h a (both (not (is_among (map prefix_kind ps) 2)) (distinct (map prefix_kind ps)) d).1
 from_again done (prefix.«Type» t ∷ ps) h a d =
     let u = not_true (is_among (map prefix_kind ps) 3)
-        (both (not (is_among (map prefix_kind ps) 3)) (distinct (map prefix_kind ps)) d).0 in
+    (both (not (is_among (map prefix_kind ps) 3)) (distinct (map prefix_kind ps)) d).0 in
     ap (λ t. procedure_from (prefixes_of done t)) (type_first t ps h)
     ∙ ap (option_and_then (typed_procedure done))
-      (type_again t (prefixes_text ps ++ heading_text h) (both (well_type t) (all (map well_prefix ps)) a).0 (no_length ps h u))
+    (type_again t (prefixes_text ps ++ heading_text h) (both (well_type t) (all (map well_prefix ps)) a).0 (no_length ps h u))
     ∙ untyped_again (prefix.«Type» t ∷ done) ps h u
 
 kept_again : (p : Procedure) → keeps p.prefixes p.heading ≡ true → kept p ≡ Some p
@@ -356,7 +434,7 @@ pub procedure_again : (q : Procedure) → well_procedure q ≡ true → procedur
 procedure_again q w =
     let ws = both (all (map well_prefix q.prefixes)) (keeps q.prefixes q.heading) w in
     from_again [] q.prefixes q.heading ws.0
-        (both (distinct (map prefix_kind q.prefixes)) (well_heading (map prefix_kind q.prefixes) q.heading) ws.1).0
+    (both (distinct (map prefix_kind q.prefixes)) (well_heading (map prefix_kind q.prefixes) q.heading) ws.1).0
     ∙ ap (λ ps. kept (procedure ps q.heading)) (in_order q.prefixes) ∙ kept_again q ws.1
 
 -- ---- what begins with the word of a type
@@ -367,14 +445,14 @@ FormIn ts f = Is spell_form well_form ts f
 typed_form_sound : (p : TypeSpec × Text) (f : Form) → well_type p.0 ≡ true → typed_form p ≡ Some f → FormIn (type_text p.0 ++ p.1) f
 typed_form_sound p f w h =
     by_test (λ b. (if b then option_map (λ q. of.Unit (unit_of.Procedure q)) (typed_procedure [] p)
-      else option_map of.Declaration (declaration_of p.0 p.1)) ≡ Some f →
-          FormIn (type_text p.0 ++ p.1) f) (is_keyed (behind_keyword p.1))
+    else option_map of.Declaration (declaration_of p.0 p.1)) ≡ Some f →
+    FormIn (type_text p.0 ++ p.1) f) (is_keyed (behind_keyword p.1))
     (λ _ h. mapped (λ q. of.Unit (unit_of.Procedure q)) (typed_procedure [] p) f h (λ q hq is.
-      let s = typed_sound [] p q refl w hq in
-          subst (FormIn (type_text p.0 ++ p.1)) is record { spelled = s.spelled; kept = s.kept }))
+    let s = typed_sound [] p q refl w hq in
+    subst (FormIn (type_text p.0 ++ p.1)) is record { spelled = s.spelled; kept = s.kept }))
     (λ _ h. mapped of.Declaration (declaration_of p.0 p.1) f h (λ d hd is.
-      let s = declaration_sound p.0 p.1 d w hd in
-          subst (FormIn (type_text p.0 ++ p.1)) is record { spelled = s.spelled; kept = s.kept })) h
+    let s = declaration_sound p.0 p.1 d w hd in
+    subst (FormIn (type_text p.0 ++ p.1)) is record { spelled = s.spelled; kept = s.kept })) h
 
 -- what is read behind the word of a type: a declaration, or a procedure whose first prefix is a type
 pub typed_word_sound : (w : TypeWord) (ts : Text) (f : Form) → option_and_then typed_form (type_of w ts) ≡ Some f →
@@ -404,17 +482,17 @@ no_keyword_behind t [] false (a ∷ es) = refl
 
 typed_by_keyword : (p : TypeSpec × Text) (b : Bool) → is_keyed (behind_keyword p.1) ≡ b →
     typed_form p ≡ (if b then option_map (λ q.
-        of.Unit (unit_of.Procedure q)) (typed_procedure [] p) else option_map of.Declaration (declaration_of p.0 p.1))
+    of.Unit (unit_of.Procedure q)) (typed_procedure [] p) else option_map of.Declaration (declaration_of p.0 p.1))
 typed_by_keyword p b h =
     ap (λ b. if b then option_map (λ q.
-        of.Unit (unit_of.Procedure q)) (typed_procedure [] p) else option_map of.Declaration (declaration_of p.0 p.1)) h
+    of.Unit (unit_of.Procedure q)) (typed_procedure [] p) else option_map of.Declaration (declaration_of p.0 p.1)) h
 
 pub declaration_typed : (d : Declaration) → well_declaration d ≡ true →
     option_and_then typed_form (type_of (word_of d.of) (behind_type d.of ++ behind_declared d)) ≡ Some (of.Declaration d)
 declaration_typed d w =
     let more = behind_declared d in
     ap (option_and_then typed_form)
-      (type_again d.of more (declared_type d w) (no_length_behind d.of d.attributes d.colons d.entities))
+    (type_again d.of more (declared_type d w) (no_length_behind d.of d.attributes d.colons d.entities))
     ∙ typed_by_keyword (d.of, more) false (no_keyword_behind d.of d.attributes d.colons d.entities)
     ∙ ap (option_map of.Declaration) (declaration_again d w)
 
@@ -431,7 +509,7 @@ procedure_first t ps h = type_first t ps h
 
 pub procedure_typed : (t : TypeSpec) (ps : List Prefix) (h : Heading) → well_procedure (typed_function t ps h) ≡ true →
     option_and_then typed_form (type_of (word_of t) (behind_type t ++ behind_prefix ps h)) ≡
-        Some (of.Unit (unit_of.Procedure (typed_function t ps h)))
+    Some (of.Unit (unit_of.Procedure (typed_function t ps h)))
 procedure_typed t ps h w =
     let all_of = prefix.«Type» t ∷ ps in
     let kinds = map prefix_kind ps in
@@ -442,8 +520,8 @@ procedure_typed t ps h w =
     ap (option_and_then typed_form) (type_again t (behind_prefix ps h) wt.0 (no_length ps h u))
     ∙ typed_by_keyword (t, behind_prefix ps h) true (keyword_first ps h u)
     ∙ ap (option_map (λ q. of.Unit (unit_of.Procedure q)))
-      (untyped_again (prefix.«Type» t ∷ []) ps h u ∙ ap (λ ps. kept (procedure ps h)) (in_order all_of)
-          ∙ kept_again (typed_function t ps h) ws.1)
+    (untyped_again (prefix.«Type» t ∷ []) ps h u ∙ ap (λ ps. kept (procedure ps h)) (in_order all_of)
+    ∙ kept_again (typed_function t ps h) ws.1)
 
 -- ---- by the word of a type and what stands behind it
 
@@ -454,18 +532,18 @@ typed_at f v w us ts e h =
     let words : v ≡ w = cc in
     let rests : us ≡ ts = cc in
     sym (ap (λ w. option_and_then typed_form (type_of w ts)) words)
-        ∙ sym (ap (λ t. option_and_then typed_form (type_of v t)) rests) ∙ h
+    ∙ sym (ap (λ t. option_and_then typed_form (type_of v t)) rests) ∙ h
 
 pub declaration_word_again : (d : Declaration) (w : TypeWord) (ts : Text) → well_declaration d ≡ true →
     declaration_text d ≡ type_terminal w ∷ ts →
     option_and_then typed_form (type_of w ts) ≡ Some (of.Declaration d)
 declaration_word_again d w ts well e =
     typed_at (of.Declaration d) (word_of d.of) w (behind_type d.of ++ behind_declared d) ts (sym (declaration_first d)
-        ∙ e) (declaration_typed d well)
+    ∙ e) (declaration_typed d well)
 
 word_again_by : (ps : List Prefix) (h : Heading) (w : TypeWord) (ts : Text) → well_procedure (procedure ps h) ≡ true →
     procedure_text (procedure ps h) ≡ type_terminal w ∷ ts →
-        option_and_then typed_form (type_of w ts) ≡ Some (of.Unit (unit_of.Procedure (procedure ps h)))
+    option_and_then typed_form (type_of w ts) ≡ Some (of.Unit (unit_of.Procedure (procedure ps h)))
 word_again_by [] (heading.Subroutine n d) w ts well e = absurd (cc)
 word_again_by [] (heading.Function n ns o) w ts well e = absurd (cc)
 word_again_by (prefix.Recursive ∷ ps) h w ts well e = absurd (cc)
@@ -473,7 +551,7 @@ word_again_by (prefix.Pure ∷ ps) h w ts well e = absurd (cc)
 word_again_by (prefix.Elemental ∷ ps) h w ts well e = absurd (cc)
 word_again_by (prefix.«Type» t ∷ ps) h w ts well e =
     typed_at (of.Unit (unit_of.Procedure (typed_function t ps h))) (word_of t) w (behind_type t ++ behind_prefix ps h) ts
-      (sym (procedure_first t ps h) ∙ e) (procedure_typed t ps h well)
+    (sym (procedure_first t ps h) ∙ e) (procedure_typed t ps h well)
 
 pub procedure_word_again : (q : Procedure) (w : TypeWord) (ts : Text) → well_procedure q ≡ true →
     procedure_text q ≡ type_terminal w ∷ ts →

@@ -1,6 +1,27 @@
 -- Types with their lengths: what is read is spelled as the terminals, and what is spelled is read.
-use Rattle.std.proofs.Common.{◌≡◌, ℕ, Bool, true, false, ◌&&◌, ◌||◌, List, [], ◌∷◌, ◌++◌, Option, Some, None, sym, ◌∙◌, ap, subst,
-    refl, append_assoc, codes}
+use Rattle.std.proofs.Common.{
+  ◌≡◌,
+  ℕ,
+  Bool,
+  true,
+  false,
+  ◌&&◌,
+  ◌||◌,
+  List,
+  [],
+  ◌∷◌,
+  ◌++◌,
+  Option,
+  Some,
+  None,
+  sym,
+  ◌∙◌,
+  ap,
+  subst,
+  refl,
+  append_assoc,
+  codes,
+}
 use Rattle.std.specs.Prelude.{ℤ, option_map, option_and_then, if◌then◌else◌}
 use Rattle.f95_tree.specs.declared.expression.Expression.{Expression, roll-Expression, out-Expression}
 use Rattle.f95_tree.specs.declared.expression.Expression.TheVariants as e
@@ -40,8 +61,22 @@ use Rattle.f95_parts.proofs.ViewLaws.{behind_sound, star_sound, literal_sound, w
 use Rattle.f95_parts.proofs.PartLaws.{expression_text, expression_well, lone_again, spread_sound, whole_again}
 use Rattle.f95_parts.proofs.FieldLaws.{keyword_left, argument_field, argument_spelled, argument_well}
 use Rattle.f95_statements.specs.Actions.{only}
-use Rattle.f95_statements.specs.Declarations.{keyed_of, given_length, given_in, behind_len, behind_any, or_else, assumed,
-    length_inside, as_number, number_length, starred_length, length_by, length_at, type_of}
+use Rattle.f95_statements.specs.Declarations.{
+  keyed_of,
+  given_length,
+  given_in,
+  behind_len,
+  behind_any,
+  or_else,
+  assumed,
+  length_inside,
+  as_number,
+  number_length,
+  starred_length,
+  length_by,
+  length_at,
+  type_of,
+}
 
 -- what stands first: spelled so, well formed, and with the rest behind it
 pub record Leads {A : Type 0} (spell : A → Text) (w : A → Bool) (ts : Text) (a : A) (rest : Text) : Type 0 where
@@ -93,8 +128,8 @@ keyed_sound None k h = let q : false ≡ k = cc in ap (λ k. keyword_left (len_w
 keyed_sound (Some x) k h = chained (λ n. if is (codes "len") n then Some true else None) (whole x) k h (λ n hn h2.
     by_test (λ b. (if b then Some true else None) ≡ Some k → Some x ≡ keyword_left (len_word k)) (is (codes "len") n)
     (λ yes h. let q : true ≡ k = cc in
-      ap Some (whole_sound x n hn) ∙ ap (λ n. Some (e.Reference (r.Whole n))) (same_word n (codes "len") yes)
-          ∙ ap (λ k. keyword_left (len_word k)) q)
+    ap Some (whole_sound x n hn) ∙ ap (λ n. Some (e.Reference (r.Whole n))) (same_word n (codes "len") yes)
+    ∙ ap (λ k. keyword_left (len_word k)) q)
     (λ _ h. absurd (cc)) h2)
 
 keyed_again : (keyed : Bool) → keyed_of (keyword_left (len_word keyed)) ≡ Some keyed
@@ -107,12 +142,12 @@ given_sound f l h k = chained (λ keyed.
     option_map (length_of.Given keyed) (spread_expression f.spread)) (keyed_of f.left) l h (λ keyed hk h2.
     mapped (length_of.Given keyed) (spread_expression f.spread) l h2 (λ x hx is.
     k keyed x (ap (λ l. field l f.spread) (keyed_sound f.left keyed hk)
-        ∙ ap (λ s. field (keyword_left (len_word keyed)) s) (spread_sound f.spread x hx)) is))
+    ∙ ap (λ s. field (keyword_left (len_word keyed)) s) (spread_sound f.spread x hx)) is))
 
 given_again : (keyed : Bool) (x : Expression) → given_length (argument_field (given keyed x)) ≡ Some (length_of.Given keyed x)
 given_again keyed x =
     ap (option_and_then (λ keyed. option_map (length_of.Given keyed) (spread_expression (spread.One (v.One x)))))
-        (keyed_again keyed)
+    (keyed_again keyed)
     ∙ ap (option_map (length_of.Given keyed)) (lone_again x)
 
 abbrev LengthIn : Text → Length × Text → Type 0
@@ -143,12 +178,18 @@ inside_sound inside p h =
     let other = option_and_then given_in (bracket inside) in
     or_else_sound any (or_else len_any other) p h
     (λ h. mapped (assumed false) (behind_any inside) p h (λ rest hr is.
-      subst (LengthIn (punctuated mark.Open inside)) is record { spelled =
-          ap (punctuated mark.Open) (sym (any_sound inside rest hr)); kept = refl }))
+    subst (LengthIn (punctuated mark.Open inside)) is record {
+      spelled =
+          ap (punctuated mark.Open) (sym (any_sound inside rest hr));
+      kept = refl;
+    }))
     (λ h. or_else_sound len_any other p h
     (λ h. mapped (assumed true) (option_and_then behind_any (behind_len inside)) p h (λ rest hr is.
-      subst (LengthIn (punctuated mark.Open inside)) is record { spelled =
-          ap (punctuated mark.Open) (sym (len_any_sound inside rest hr)); kept = refl }))
+    subst (LengthIn (punctuated mark.Open inside)) is record {
+      spelled =
+          ap (punctuated mark.Open) (sym (len_any_sound inside rest hr));
+      kept = refl;
+    }))
     (given_in_sound inside p))
 
 number_is : (l : Literal) (n : ℤ) → as_number l ≡ Some n → l ≡ literal.Number n
@@ -207,32 +248,32 @@ bracket_expression : (x : Expression) (rest : Text) → well x ≡ true →
     bracket (expression x ++ punctuated mark.Close rest) ≡ Some (expression_field x ∷ [], rest)
 bracket_expression x rest w =
     ap (λ t. bracket (t ++ punctuated mark.Close rest)) (sym (expression_text x))
-        ∙ bracket_again (expression_field x) [] rest (expression_well x ∙ w)
+    ∙ bracket_again (expression_field x) [] rest (expression_well x ∙ w)
 
 not_any : (x : Expression) (rest more : Text) → well x ≡ true →
     behind_any (expression x ++ punctuated mark.Close rest) ≡ Some more → ⊥
 not_any x rest more w h =
     let q = sym (bracket_expression x rest w) ∙ ap bracket (any_sound (expression x ++ punctuated mark.Close rest) more h)
-        ∙ bracket_star (punctuated mark.Close more) in absurd (cc)
+    ∙ bracket_star (punctuated mark.Close more) in absurd (cc)
 
 not_len_any : (x : Expression) (rest more : Text) → well x ≡ true →
     option_and_then behind_any (behind_len (expression x ++ punctuated mark.Close rest)) ≡ Some more → ⊥
 not_len_any x rest more w h =
     let q = sym (bracket_expression x rest w) ∙ ap bracket (len_any_sound (expression x ++ punctuated mark.Close rest) more h)
-        ∙ bracket_named_star (codes "len") (punctuated mark.Close more) in absurd (cc)
+    ∙ bracket_named_star (codes "len") (punctuated mark.Close more) in absurd (cc)
 
 inside_again : (inside : Text) (p : Length × Text) → behind_any inside ≡ None →
     option_and_then behind_any (behind_len inside) ≡ None →
     option_and_then given_in (bracket inside) ≡ Some p → length_inside inside ≡ Some p
 inside_again inside p ha hb hc =
     ap (λ o. or_else (option_map (assumed false) o)
-      (or_else (option_map (assumed true) (option_and_then behind_any (behind_len inside)))
-          (option_and_then given_in (bracket inside)))) ha
+    (or_else (option_map (assumed true) (option_and_then behind_any (behind_len inside)))
+    (option_and_then given_in (bracket inside)))) ha
     ∙ ap (λ o. or_else (option_map (assumed true) o) (option_and_then given_in (bracket inside))) hb ∙ hc
 
 given_found : (keyed : Bool) (x : Expression) (rest : Text) → well x ≡ true →
     option_and_then given_in (bracket ((length_keyword keyed ++ expression x) ++ punctuated mark.Close rest)) ≡
-        Some (length_of.Given keyed x, rest)
+    Some (length_of.Given keyed x, rest)
 given_found keyed x rest w =
     ap (λ t. option_and_then given_in (bracket (t ++ punctuated mark.Close rest))) (sym (given_text keyed x))
     ∙ ap (option_and_then given_in) (bracket_again (argument_field (given keyed x)) [] rest (argument_well (given keyed x) ∙ w))
@@ -243,11 +284,11 @@ given_inside : (keyed : Bool) (x : Expression) (rest : Text) → well x ≡ true
 given_inside true x rest w = inside_again ((length_keyword true ++ expression x) ++ punctuated mark.Close rest)
     (length_of.Given true x, rest) refl
     (none_where (behind_any (expression x ++ punctuated mark.Close rest)) (λ more. not_any x rest more w))
-        (given_found true x rest w)
+    (given_found true x rest w)
 given_inside false x rest w = inside_again (expression x ++ punctuated mark.Close rest) (length_of.Given false x, rest)
     (none_where (behind_any (expression x ++ punctuated mark.Close rest)) (λ more. not_any x rest more w))
     (none_where (option_and_then behind_any (behind_len (expression x ++ punctuated mark.Close rest))) (λ more.
-        not_len_any x rest more w))
+    not_len_any x rest more w))
     (given_found false x rest w)
 
 -- a length is read where the rest doesn't begin one
@@ -257,7 +298,7 @@ length_again length_of.One rest w h = no_length rest h
 length_again (length_of.Number n) rest w h = refl
 length_again (length_of.Given keyed x) rest w h =
     ap length_inside (append_assoc (length_keyword keyed ++ expression x) (punctuated mark.Close []) rest)
-        ∙ given_inside keyed x rest w
+    ∙ given_inside keyed x rest w
 length_again (length_of.Assumed true) rest w h = refl
 length_again (length_of.Assumed false) rest w h = refl
 
@@ -293,8 +334,11 @@ type_sound type_word.Logical ts p h = let q : (type_spec.Logical, ts) ≡ p = cc
     subst (TypeIn (type_terminal type_word.Logical ∷ ts)) q record { spelled = refl; kept = refl }
 type_sound type_word.Character ts p h = mapped (λ q. (type_spec.Character q.0, q.1)) (length_at ts) p h (λ q hq is.
     let s = length_sound ts q hq in
-    subst (TypeIn (type_terminal type_word.Character ∷ ts)) is record { spelled =
-        ap (λ t. type_terminal type_word.Character ∷ t) s.spelled; kept = s.kept })
+    subst (TypeIn (type_terminal type_word.Character ∷ ts)) is record {
+      spelled =
+          ap (λ t. type_terminal type_word.Character ∷ t) s.spelled;
+      kept = s.kept;
+    })
 
 -- a type is read where the rest doesn't begin a length
 pub type_again : (t : TypeSpec) (rest : Text) → well_type t ≡ true → begins_length rest ≡ false →

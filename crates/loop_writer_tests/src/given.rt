@@ -3,7 +3,10 @@ ghost use Rattle.std.specs.Prelude.{IfOk};
 ghost use Rattle.loop_writer.specs.Pieces.{BeginsMain};
 
 use a95_base::{Bytes, FaultKind, Memory, Stack};
-use loop_tree::{Argument, Atom, BlockRow, Code, ControlRow, IntValue, Letter, Operator, RecordRow, Reference, Row, TextAtom, TextValue};
+use loop_tree::{
+    Argument, Atom, BlockRow, Code, ControlRow, IntValue, Letter, Operator, RecordRow, Reference,
+    Row, TextAtom, TextValue,
+};
 use loop_writer::{Piece, Producer};
 use sqlite_items::{Boxed, Items};
 use std::alloc::{AllocError, Global};
