@@ -1,0 +1,40 @@
+-- What is known of scopes and of rules.
+use Rattle.std.specs.Prelude.{◌≡◌, ℕ, ℤ, true, false, ◌↔◌}
+use Rattle.a95_base.specs.Breaks.{AreBroken}
+use Rattle.a95_base.specs.IntegerLaws.{IsInteger}
+use Rattle.a95_base.specs.Lists.{Every, Pairwise}
+use Rattle.a95_base.specs.Rules.{declared_twice}
+use Rattle.a95_base.specs.declared.scalar.Scalar.TheVariants as scalar
+use Rattle.f95_tree.specs.Forms.{Word}
+use Rattle.f95_tree.specs.declared.source.Source.{Source as Nested}
+use Rattle.intrinsic_table.specs.Finding.{is_word}
+use Rattle.names_types.specs.Plain.{Source}
+use Rattle.names_types.specs.Constants.{Is, within}
+use Rattle.names_types.specs.Scopes.{Entry, Scope, entries, scopes, is_undeclared, is_of_host}
+use Rattle.names_types.specs.Rules.{Breaks}
+use Rattle.names_types.specs.View.{source_of}
+use Rattle.names_types.specs.Broken.{IsBroken}
+use Rattle.names_types.specs.Listed.{breaks_of}
+
+-- the list has all that a source breaks, and nothing else
+abbrev pub ListedAreBroken : Type 0
+ListedAreBroken = (s : Nested) → AreBroken (IsBroken s) (breaks_of (source_of s))
+
+-- the second of two declarations is of another name
+abbrev pub IsOther : Entry → Entry → Type 0
+IsOther d e = is_word e.name d.name ≡ false
+
+abbrev pub DeclaresEachOnce : Scope → Type 0
+DeclaresEachOnce c = Pairwise IsOther (entries c)
+
+-- where rule 18 holds on no line, no scope declares a name twice
+abbrev pub EachDeclaredOnce : Type 0
+EachDeclaredOnce = (s : Source) → ((line : ℕ) → Breaks s line declared_twice → ⊥) → Every DeclaresEachOnce (scopes s)
+
+-- of a name that breaks rule 28, rule 19 doesn't speak
+abbrev pub HostIsDeclared : Type 0
+HostIsDeclared = (c : Scope) (name : Word) → is_of_host c name ≡ true → is_undeclared c name ≡ false
+
+-- the value of an operation is known exactly where it is an INTEGER
+abbrev pub KnownWithin : Type 0
+KnownWithin = (z : ℤ) → (within z ≡ Is (scalar.Int z)) ↔ IsInteger z

@@ -1,0 +1,10 @@
+pub mod Plain
+pub mod Mentions
+pub mod Keywords
+pub mod Constants
+pub mod Scopes
+pub mod Rules
+pub mod View
+pub mod Broken
+pub mod Listed
+pub mod Laws

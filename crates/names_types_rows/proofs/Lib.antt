@@ -1,0 +1,4 @@
+pub mod ScalarsRows
+pub mod ShapesRows
+pub mod ProceduresRows
+pub mod ModulesRows

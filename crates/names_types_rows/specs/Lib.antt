@@ -1,0 +1,5 @@
+pub mod Build
+pub mod Scalars
+pub mod Shapes
+pub mod Procedures
+pub mod Modules
