@@ -17,7 +17,8 @@ empty : {A : Type 0} (xs : List A) → ((x : A) → Member xs x → ⊥) → xs 
 empty [] h = refl
 empty (x ∷ xs) h = absurd (h x (inl refl))
 
-in_flat_map : {A B : Type 0} (f : A → List B) (xs : List A) (x : A) (y : B) → Member xs x → Member (f x) y → Member (flat_map f xs) y
+in_flat_map : {A B : Type 0} (f : A → List B) (xs : List A) (x : A) (y : B) → Member xs x → Member (f x) y
+    → Member (flat_map f xs) y
 in_flat_map f [] x y h m = absurd h
 in_flat_map f (z ∷ xs) x y (inl e) m = Member-append_left (f z) (flat_map f xs) y (subst (λ w. Member (f w) y) (sym e) m)
 in_flat_map f (z ∷ xs) x y (inr h) m = Member-append_right (f z) (flat_map f xs) y (in_flat_map f xs x y h m)
@@ -27,7 +28,8 @@ either_false : (a b : Bool) → (a || b) ≡ false → (a ≡ false) × (b ≡ f
 either_false true b e = absurd (grind (arith, e))
 either_false false b e = (refl, e)
 
-any_snoc : {A : Type 0} (f : A → Bool) (xs : List A) (x : A) → list_any f (xs ++ x ∷ []) ≡ false → (list_any f xs ≡ false) × (f x ≡ false)
+any_snoc : {A : Type 0} (f : A → Bool) (xs : List A) (x : A) → list_any f (xs ++ x ∷ []) ≡ false
+    → (list_any f xs ≡ false) × (f x ≡ false)
 any_snoc f [] x e = (refl, (either_false (f x) false e).0)
 any_snoc f (y ∷ xs) x e =
     let both = either_false (f y) (list_any f (xs ++ x ∷ [])) e in
@@ -46,7 +48,8 @@ module _ (own : List Word) (host : List Meant) where
   abbrev lines : List Sited → List ℕ
   lines ss = map site_line (filter (λ (s : Sited). list_any (λ (e : Entry). is_word s.entry.name e.name) s.earlier) ss)
 
-  first_line : (t : Bool) (s : Sited) (ss : List Sited) → map site_line (cond t (s ∷ ss) ss) ≡ [] → (t ≡ false) × (map site_line ss ≡ [])
+  first_line : (t : Bool) (s : Sited) (ss : List Sited) → map site_line (cond t (s ∷ ss) ss) ≡ []
+      → (t ≡ false) × (map site_line ss ≡ [])
   first_line true s ss e = absurd (cons_is_not_nil (site_line s) (map site_line ss) e)
   first_line false s ss e = (refl, e)
 
@@ -61,12 +64,14 @@ module _ (own : List Word) (host : List Meant) where
       let rest = each_fresh (earlier ++ e ∷ []) (before ++ meant e.name (entry_meaning own host before e) ∷ []) more split.1 in
       ((split.0, earlier_free more rest.0), (last_free more rest.0, rest.1))
     where
-      earlier_free : (xs : List Entry) → Every (λ (x : Entry). list_any (λ (d : Entry). is_word x.name d.name) (earlier ++ e ∷ []) ≡ false) xs
+      earlier_free : (xs : List Entry)
+          → Every (λ (x : Entry). list_any (λ (d : Entry). is_word x.name d.name) (earlier ++ e ∷ []) ≡ false) xs
           → Every (λ (x : Entry). list_any (λ (d : Entry). is_word x.name d.name) earlier ≡ false) xs
       earlier_free [] p = tt
       earlier_free (x ∷ xs) p = ((any_snoc (λ (d : Entry). is_word x.name d.name) earlier e p.0).0, earlier_free xs p.1)
 
-      last_free : (xs : List Entry) → Every (λ (x : Entry). list_any (λ (d : Entry). is_word x.name d.name) (earlier ++ e ∷ []) ≡ false) xs
+      last_free : (xs : List Entry)
+          → Every (λ (x : Entry). list_any (λ (d : Entry). is_word x.name d.name) (earlier ++ e ∷ []) ≡ false) xs
           → Every (IsOther e) xs
       last_free [] p = tt
       last_free (x ∷ xs) p = ((any_snoc (λ (d : Entry). is_word x.name d.name) earlier e p.0).1, last_free xs p.1)

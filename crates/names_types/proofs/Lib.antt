@@ -1,3 +1,4 @@
 pub mod Listing
 pub mod Declaring
 pub mod Within
+pub mod Seeing

@@ -343,7 +343,8 @@ elemental_value intrinsic.Abs args = within (pos (unsigned_abs (integer_at 0 arg
 elemental_value intrinsic.Mod args = integer_or_spoilt (remainder_of (integer_at 0 args) (integer_at 1 args))
 elemental_value intrinsic.Modulo args = integer_or_spoilt (modulo_of (integer_at 0 args) (integer_at 1 args))
 elemental_value intrinsic.Sign args =
-    within (if int_le (pos 0) (integer_at 1 args) then pos (unsigned_abs (integer_at 0 args)) else neg_ℤ (pos (unsigned_abs (integer_at 0 args))))
+    within (if int_le (pos 0) (integer_at 1 args) then pos (unsigned_abs (integer_at 0 args))
+    else neg_ℤ (pos (unsigned_abs (integer_at 0 args))))
 elemental_value intrinsic.Max args = Is (scalar.Int (best greater_of args))
 elemental_value intrinsic.Min args = Is (scalar.Int (best lesser_of args))
 elemental_value intrinsic.Iand args = Is (scalar.Int (and_of (integer_at 0 args) (integer_at 1 args)))
@@ -379,7 +380,8 @@ elemental_worth which args =
     else Unknown)
 
 abbrev pub elemental_call : Intrinsic → List Placed → Option Valued
-elemental_call which args = then_option (all_seen args) (λ seen. with_worth (elemental_worth which seen) (elemental_facts which seen))
+elemental_call which args =
+    then_option (all_seen args) (λ seen. with_worth (elemental_worth which seen) (elemental_facts which seen))
 
 -- ---- bounds that are asked for
 

@@ -20,7 +20,8 @@ number_written digits = fold (λ n digit. n * 10 + (digit - 48)) 0 digits
 abbrev pub numbered_place : Word → Option ℕ
 numbered_place [] = None
 numbered_place (letter ∷ digits) =
-    if (letter == 97 && is_word digits (decimal (number_written digits))) && (nat_lt 0 (number_written digits) && nat_le (number_written digits) most_numbered)
+    if (letter == 97 && is_word digits (decimal (number_written digits)))
+    && (nat_lt 0 (number_written digits) && nat_le (number_written digits) most_numbered)
     then Some (number_written digits - 1) else None
 
 abbrev pub keyword_place_in : Arguments → Word → Option ℕ

@@ -1,6 +1,7 @@
 -- What is known of scopes and of rules.
-use Rattle.std.specs.Prelude.{◌≡◌, ℕ, ℤ, true, false, ◌↔◌}
-use Rattle.a95_base.specs.Breaks.{AreBroken}
+use Rattle.std.specs.Prelude.{◌≡◌, ℕ, ℤ, true, false, Some, None, ◌↔◌}
+use Rattle.a95_base.specs.declared.breaks.Break.{Break}
+use Rattle.a95_base.specs.Breaks.{AreBroken, IsLeast, first_of}
 use Rattle.a95_base.specs.IntegerLaws.{IsInteger}
 use Rattle.a95_base.specs.Lists.{Every, Pairwise}
 use Rattle.a95_base.specs.Rules.{declared_twice}
@@ -19,6 +20,13 @@ use Rattle.names_types.specs.Listed.{breaks_of}
 -- the list has all that a source breaks, and nothing else
 abbrev pub ListedAreBroken : Type 0
 ListedAreBroken = (s : Nested) → AreBroken (IsBroken s) (breaks_of (source_of s))
+
+-- the first of them is what a refusal says, and where there is none nothing is broken
+abbrev pub FirstIsLeast : Type 0
+FirstIsLeast = (s : Nested) (b : Break) → first_of (breaks_of (source_of s)) ≡ Some b → IsLeast (IsBroken s) b.line b.rule
+
+abbrev pub NoneIsUnbroken : Type 0
+NoneIsUnbroken = (s : Nested) → first_of (breaks_of (source_of s)) ≡ None → (line rule : ℕ) → IsBroken s line rule → ⊥
 
 -- the second of two declarations is of another name
 abbrev pub IsOther : Entry → Entry → Type 0

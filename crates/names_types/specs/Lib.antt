@@ -8,3 +8,4 @@ pub mod View
 pub mod Broken
 pub mod Listed
 pub mod Laws
+pub mod Nodes

@@ -16,7 +16,8 @@ abbrev mutual
   pub names_in_reference : Reference → List Word
   names_in_reference (Whole name) = name ∷ []
   names_in_reference (Applied name items) = name ∷ names_in_items items
-  names_in_reference (Substring name items lower upper) = name ∷ (names_in_items items ++ (names_in_bound lower ++ names_in_bound upper))
+  names_in_reference (Substring name items lower upper) =
+      name ∷ (names_in_items items ++ (names_in_bound lower ++ names_in_bound upper))
 
   pub names_in_bound : Bound → List Word
   names_in_bound Absent = []

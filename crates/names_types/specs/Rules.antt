@@ -56,7 +56,8 @@ objects_where c test = lines_where site_line (λ (s : Sited). declares test s s.
 -- ---- rule 18: a name has two declarations in one scope; it holds at each but the first
 
 abbrev pub declared_twice_on : Scope → List ℕ
-declared_twice_on c = lines_where site_line (λ (s : Sited). list_any (λ (e : Entry). is_word s.entry.name e.name) s.earlier) (sites c)
+declared_twice_on c =
+    lines_where site_line (λ (s : Sited). list_any (λ (e : Entry). is_word s.entry.name e.name) s.earlier) (sites c)
 
 -- ---- rule 19: a name has no declaration and is no intrinsic
 
@@ -91,7 +92,8 @@ result_names (InProcedure p) = result_name p.function
 
 -- PARAMETER without value or with bounds, or on a dummy or a result
 abbrev pub wrong_constant : Scope → Word → Object → Bool
-wrong_constant c name o = is_constant o && (is_none o.initial || (not (is_scalar o) || (is_dummy c name || is_among (result_names c.place) name)))
+wrong_constant c name o = is_constant o
+    && (is_none o.initial || (not (is_scalar o) || (is_dummy c name || is_among (result_names c.place) name)))
 
 -- ALLOCATABLE on a dummy, without bounds, or with a bound other than `:`
 abbrev pub wrong_allocatable : Scope → Word → Object → Bool
@@ -230,7 +232,8 @@ not_constant_on c = lines_where (λ (d : Demand). d.line) (is_no_constant c) (de
 -- ---- rule 23: a declaration or a prefix needs a constant expression, and this one has a fault or leaves 32 bits
 
 abbrev pub constant_faults_on : Scope → List ℕ
-constant_faults_on c = lines_where (λ (d : Demand). d.line) (λ (d : Demand). is_spoilt (worth_in (valued d.sense d.expr))) (demands c)
+constant_faults_on c =
+    lines_where (λ (d : Demand). d.line) (λ (d : Demand). is_spoilt (worth_in (valued d.sense d.expr))) (demands c)
 
 -- ---- rule 24: a declared rank exceeds 7
 

@@ -7,11 +7,13 @@ use Rattle.a95_base.specs.declared.source.Line.{Line}
 use Rattle.f95_tree.specs.Forms.{Word}
 use Rattle.f95_tree.specs.declared.expression.Expression.{Expression}
 use Rattle.f95_tree.specs.declared.expression.Reference.{Reference}
+use Rattle.f95_tree.specs.declared.expression.Item.{Item}
+use Rattle.f95_tree.specs.declared.expression.Value.{Value}
 use Rattle.f95_tree.specs.declared.expression.Literal.{Literal}
 use Rattle.f95_tree.specs.declared.expression.Literal.TheVariants as literal
 use Rattle.f95_tree.specs.declared.expression.Expression.TheOpen.{Expression-F, Reference-F, Item-F, Value-F}
 use Rattle.f95_tree.specs.declared.expression.Expression.TheOpen as layer
-use Rattle.f95_tree.specs.declared.expression.Expression.TheFolds.{fold-Expression, fold-Reference}
+use Rattle.f95_tree.specs.declared.expression.Expression.TheFolds.{fold-Expression, fold-Item, fold-Reference, fold-Value}
 use Rattle.f95_tree.specs.declared.declaration.TypeSpec.{TypeSpec}
 use Rattle.f95_tree.specs.declared.declaration.TypeSpec.TheVariants as type_spec
 use Rattle.f95_tree.specs.declared.declaration.Length.{Length}
@@ -108,6 +110,12 @@ expr_of = fold-Expression plain.Expr AddItem plain.Reference AddValue expression
 
 abbrev pub reference_of : Reference → plain.Reference
 reference_of = fold-Reference plain.Expr AddItem plain.Reference AddValue expression_at item_at reference_at value_at
+
+abbrev pub item_of : Item → AddItem
+item_of = fold-Item plain.Expr AddItem plain.Reference AddValue expression_at item_at reference_at value_at
+
+abbrev pub value_of : Value → AddValue
+value_of = fold-Value plain.Expr AddItem plain.Reference AddValue expression_at item_at reference_at value_at
 
 -- ---- declarations
 

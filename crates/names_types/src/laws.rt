@@ -1,9 +1,29 @@
 //! Laws of scopes and of rules: each is the contract of a function that does nothing.
-ghost use Rattle.names_types.specs.Laws.{ListedAreBroken, EachDeclaredOnce, HostIsDeclared, KnownWithin};
+ghost use Rattle.names_types.specs.Laws.{ListedAreBroken, FirstIsLeast, NoneIsUnbroken, EachDeclaredOnce, HostIsDeclared, KnownWithin};
+ghost use Rattle.names_types.specs.Nodes.{Literals, References, Brackets, Constructors, Signs, Operations, WholeNames, AppliedNames, Substrings};
 
 /// The list of a source's breaks has all that it breaks, and nothing else.
 pub fn listed_are_broken()
     ensures { ListedAreBroken }
+{}
+
+/// The first break of the list is the least that the source breaks; where there is none, it breaks nothing.
+pub fn first_is_least()
+    ensures least { FirstIsLeast }
+    ensures unbroken { NoneIsUnbroken }
+{}
+
+/// Each node of an expression is seen as it is written.
+pub fn expressions_as_written()
+    ensures literals { Literals }
+    ensures references { References }
+    ensures brackets { Brackets }
+    ensures constructors { Constructors }
+    ensures signs { Signs }
+    ensures operations { Operations }
+    ensures whole { WholeNames }
+    ensures applied { AppliedNames }
+    ensures substrings { Substrings }
 {}
 
 /// Where no name is declared twice, each scope declares each of its names once.

@@ -7,4 +7,7 @@
 
 mod laws;
 
-pub use laws::{each_declared_once, host_is_declared, known_within, listed_are_broken};
+pub use laws::{
+    each_declared_once, expressions_as_written, first_is_least, host_is_declared, known_within,
+    listed_are_broken,
+};

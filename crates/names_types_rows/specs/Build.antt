@@ -93,7 +93,13 @@ subroutine line n dummies p = record { line = line; name = codes n; dummies = wo
 
 abbrev pub function : ℕ → Option TypeSpec → String → List String → String → Part → Procedure
 function line of n dummies result p =
-    record { line = line; name = codes n; dummies = words dummies; function = Some (record { of = of; result = codes result }); part = p }
+    record {
+      line = line;
+      name = codes n;
+      dummies = words dummies;
+      function = Some (record { of = of; result = codes result });
+      part = p;
+    }
 
 abbrev pub host : Part → List Procedure → Host
 host p procedures = record { part = p; procedures = procedures }

@@ -23,9 +23,11 @@ use Rattle.names_types_rows.specs.Build.{number, name, call, scalar_entity, arra
 abbrev pub life : Source
 life = source (a_module "life" (part [] [] [])
     (subroutine 3 "step" ("w" ∷ []) (part [] (declares 4 Integer (taken ∷ []) (array_entity "w" (Deferred ∷ Deferred ∷ []) ∷ [])
-    ∷ declares 5 Integer [] (array_entity "n" (Upper (call "size" (name "w" ∷ number 1 ∷ [])) ∷ Upper (call "size" (name "w" ∷ number 2 ∷ [])) ∷ []) ∷ []) ∷ [])
+    ∷ declares 5 Integer [] (array_entity "n" (Upper (call "size" (name "w" ∷ number 1 ∷ [])) ∷ Upper (call "size" (name "w"
+    ∷ number 2 ∷ [])) ∷ []) ∷ []) ∷ [])
     (mentions 6 ("n" ∷ "cshift" ∷ "w" ∷ []))) ∷ []) ∷ [])
-    (part (uses 10 "life" ∷ []) (declares 11 Integer [] (array_entity "w" (Upper (number 5) ∷ Upper (number 5) ∷ []) ∷ scalar_entity "i" ∷ []) ∷ [])
+    (part (uses 10 "life" ∷ []) (declares 11 Integer [] (array_entity "w" (Upper (number 5) ∷ Upper (number 5) ∷ [])
+    ∷ scalar_entity "i" ∷ []) ∷ [])
     (mentions 13 ("step" ∷ "w" ∷ []))) []
 
 abbrev pub Life : Type 0
@@ -45,8 +47,10 @@ Life = breaks_of life ≡ []
 -- 12 end
 abbrev pub brought_again : Source
 brought_again = source (a_module "a" (part [] (declares 2 Integer (Parameter ∷ []) (initial_entity "n" (number 4) ∷ []) ∷ []) []) []
-    ∷ a_module "b" (part (uses 5 "a" ∷ []) (declares 6 Integer (Parameter ∷ []) (initial_entity "m" (name "n") ∷ []) ∷ []) []) [] ∷ [])
-    (part (uses 9 "a" ∷ uses_only 10 "b" ("n" ∷ "m" ∷ []) ∷ []) (declares 11 Integer [] (array_entity "x" (Upper (name "n") ∷ Upper (name "m") ∷ []) ∷ []) ∷ []) []) []
+    ∷ a_module "b" (part (uses 5 "a" ∷ []) (declares 6 Integer (Parameter ∷ []) (initial_entity "m" (name "n") ∷ [])
+    ∷ []) []) [] ∷ [])
+    (part (uses 9 "a" ∷ uses_only 10 "b" ("n" ∷ "m" ∷ []) ∷ []) (declares 11 Integer [] (array_entity "x" (Upper (name "n")
+    ∷ Upper (name "m") ∷ []) ∷ []) ∷ []) []) []
 
 abbrev pub BroughtAgain : Type 0
 BroughtAgain = breaks_of brought_again ≡ []
@@ -80,7 +84,8 @@ BroughtTwice = breaks_of brought_twice ≡ broken_at 9 18 ∷ []
 -- 9 use p
 -- 10 end
 abbrev pub not_above : Source
-not_above = source (a_module "a" (part (uses 2 "b" ∷ []) (declares 3 Integer (Parameter ∷ []) (initial_entity "n" (number 4) ∷ []) ∷ []) []) []
+not_above = source (a_module "a" (part (uses 2 "b" ∷ []) (declares 3 Integer (Parameter ∷ []) (initial_entity "n" (number 4)
+    ∷ []) ∷ []) []) []
     ∷ a_module "b" (part [] [] []) [] ∷ [])
     (part (uses_only 8 "a" ("n" ∷ "m" ∷ []) ∷ uses 9 "p" ∷ []) [] []) []
 
@@ -93,7 +98,8 @@ NotAbove = breaks_of not_above ≡ broken_at 2 27 ∷ broken_at 8 27 ∷ broken_
 -- 4 program p
 -- 5 end
 abbrev pub module_variable : Source
-module_variable = source (a_module "a" (part [] (declares 2 Integer [] (scalar_entity "n" ∷ []) ∷ []) []) [] ∷ []) (part [] [] []) []
+module_variable = source (a_module "a" (part [] (declares 2 Integer [] (scalar_entity "n" ∷ []) ∷ []) []) [] ∷ [])
+    (part [] [] []) []
 
 abbrev pub ModuleVariable : Type 0
 ModuleVariable = breaks_of module_variable ≡ broken_at 2 20 ∷ []
@@ -109,8 +115,10 @@ ModuleVariable = breaks_of module_variable ≡ broken_at 2 20 ∷ []
 -- 9 end function
 -- 10 end
 abbrev pub prefix_of_use : Source
-prefix_of_use = source (a_module "a" (part [] (declares 2 Integer (Parameter ∷ []) (initial_entity "n" (number 4) ∷ []) ∷ []) []) [] ∷ [])
-    (part [] [] []) (function 6 (Some (Character (Computed (name "n")))) "f" [] "f" (part (uses 7 "a" ∷ []) [] (mentions 8 ("f" ∷ []))) ∷ [])
+prefix_of_use = source (a_module "a" (part [] (declares 2 Integer (Parameter ∷ []) (initial_entity "n" (number 4) ∷ [])
+    ∷ []) []) [] ∷ [])
+    (part [] [] []) (function 6 (Some (Character (Computed (name "n")))) "f" [] "f" (part (uses 7 "a" ∷ []) [] (mentions 8 ("f"
+    ∷ []))) ∷ [])
 
 abbrev pub PrefixOfUse : Type 0
 PrefixOfUse = breaks_of prefix_of_use ≡ []

@@ -13,7 +13,8 @@ use Rattle.names_types_rows.specs.Build.{number, name, over, call, scalar_entity
 -- 6 end subroutine
 -- 7 end
 abbrev pub dummy_alone : Source
-dummy_alone = with_one [] (subroutine 3 "s" ("x" ∷ "y" ∷ []) (part [] (declares 4 Integer [] (scalar_entity "y" ∷ []) ∷ []) (mentions 5 ("y" ∷ "x" ∷ []))))
+dummy_alone = with_one [] (subroutine 3 "s" ("x" ∷ "y" ∷ []) (part [] (declares 4 Integer [] (scalar_entity "y" ∷ []) ∷ [])
+    (mentions 5 ("y" ∷ "x" ∷ []))))
 
 abbrev pub DummyAlone : Type 0
 DummyAlone = breaks_of dummy_alone ≡ broken_at 5 19 ∷ broken_at 3 21 ∷ broken_at 4 21 ∷ []
@@ -26,7 +27,8 @@ DummyAlone = breaks_of dummy_alone ≡ broken_at 5 19 ∷ broken_at 3 21 ∷ bro
 -- 6 end subroutine
 -- 7 end
 abbrev pub intent_later : Source
-intent_later = with_one [] (subroutine 3 "s" ("x" ∷ []) (part [] (declares 4 Integer [] (scalar_entity "x" ∷ []) ∷ declares 5 Integer (taken ∷ []) (scalar_entity "x" ∷ []) ∷ []) []))
+intent_later = with_one [] (subroutine 3 "s" ("x" ∷ []) (part [] (declares 4 Integer [] (scalar_entity "x" ∷ [])
+    ∷ declares 5 Integer (taken ∷ []) (scalar_entity "x" ∷ []) ∷ []) []))
 
 abbrev pub IntentLater : Type 0
 IntentLater = breaks_of intent_later ≡ broken_at 5 18 ∷ []
@@ -38,7 +40,8 @@ IntentLater = breaks_of intent_later ≡ broken_at 5 18 ∷ []
 -- 5 end subroutine
 -- 6 end
 abbrev pub listed_twice : Source
-listed_twice = with_one [] (subroutine 3 "s" ("x" ∷ "x" ∷ []) (part [] (declares 4 Integer (taken ∷ []) (scalar_entity "x" ∷ []) ∷ []) []))
+listed_twice = with_one [] (subroutine 3 "s" ("x" ∷ "x" ∷ []) (part [] (declares 4 Integer (taken ∷ []) (scalar_entity "x" ∷ [])
+    ∷ []) []))
 
 abbrev pub ListedTwice : Type 0
 ListedTwice = breaks_of listed_twice ≡ broken_at 3 21 ∷ broken_at 3 21 ∷ []
@@ -63,7 +66,8 @@ NoResult = breaks_of no_result ≡ broken_at 4 19 ∷ broken_at 3 29 ∷ []
 -- 6 end function
 -- 7 end
 abbrev pub typed_twice : Source
-typed_twice = with_one [] (function 3 (Some Integer) "f" [] "f" (part [] (declares 4 Integer [] (scalar_entity "f" ∷ []) ∷ []) (mentions 5 ("f" ∷ []))))
+typed_twice = with_one [] (function 3 (Some Integer) "f" [] "f" (part [] (declares 4 Integer [] (scalar_entity "f" ∷ []) ∷ [])
+    (mentions 5 ("f" ∷ []))))
 
 abbrev pub TypedTwice : Type 0
 TypedTwice = breaks_of typed_twice ≡ broken_at 4 18 ∷ []
@@ -75,7 +79,8 @@ TypedTwice = breaks_of typed_twice ≡ broken_at 4 18 ∷ []
 -- 5 end function
 -- 6 end
 abbrev pub assumed_result : Source
-assumed_result = with_one [] (function 3 None "f" [] "f" (part [] (declares 4 Integer (Allocatable ∷ []) (array_entity "f" (Deferred ∷ []) ∷ []) ∷ []) []))
+assumed_result = with_one [] (function 3 None "f" [] "f" (part [] (declares 4 Integer (Allocatable
+    ∷ []) (array_entity "f" (Deferred ∷ []) ∷ []) ∷ []) []))
 
 abbrev pub AssumedResult : Type 0
 AssumedResult = breaks_of assumed_result ≡ broken_at 4 29 ∷ []
@@ -91,8 +96,10 @@ AssumedResult = breaks_of assumed_result ≡ broken_at 4 29 ∷ []
 -- 9 end subroutine
 -- 10 end
 abbrev pub of_the_host : Source
-of_the_host = with_one (declares 2 Integer [] (scalar_entity "n" ∷ scalar_entity "abs" ∷ []) ∷ declares 3 Integer (Parameter ∷ []) (initial_entity "k" (number 2) ∷ []) ∷ [])
-    (subroutine 5 "s" [] (part [] (declares 6 Integer (Parameter ∷ []) (initial_entity "m" (name "n") ∷ []) ∷ declares 7 Integer [] (array_entity "a" (Upper (name "k") ∷ []) ∷ []) ∷ []) (mentions 8 ("a" ∷ "abs" ∷ "k" ∷ []))))
+of_the_host = with_one (declares 2 Integer [] (scalar_entity "n" ∷ scalar_entity "abs" ∷ []) ∷ declares 3 Integer (Parameter
+    ∷ []) (initial_entity "k" (number 2) ∷ []) ∷ [])
+    (subroutine 5 "s" [] (part [] (declares 6 Integer (Parameter ∷ []) (initial_entity "m" (name "n") ∷ [])
+    ∷ declares 7 Integer [] (array_entity "a" (Upper (name "k") ∷ []) ∷ []) ∷ []) (mentions 8 ("a" ∷ "abs" ∷ "k" ∷ []))))
 
 abbrev pub OfTheHost : Type 0
 OfTheHost = breaks_of of_the_host ≡ broken_at 6 28 ∷ broken_at 8 28 ∷ []
@@ -108,9 +115,11 @@ OfTheHost = breaks_of of_the_host ≡ broken_at 6 28 ∷ broken_at 8 28 ∷ []
 -- 9 end
 abbrev pub bounds : Source
 bounds = with_one [] (subroutine 3 "s" ("n" ∷ "w" ∷ []) (part []
-    (declares 4 Integer [] (array_entity "a" (Upper (name "n") ∷ []) ∷ array_entity "b" (Upper (name "n") ∷ Upper (call "size" (name "w" ∷ number 1 ∷ [])) ∷ []) ∷ [])
+    (declares 4 Integer [] (array_entity "a" (Upper (name "n") ∷ []) ∷ array_entity "b" (Upper (name "n")
+    ∷ Upper (call "size" (name "w" ∷ number 1 ∷ [])) ∷ []) ∷ [])
     ∷ declares 5 Integer (taken ∷ []) (scalar_entity "n" ∷ array_entity "w" (Deferred ∷ []) ∷ [])
-    ∷ declares 6 Integer [] (array_entity "c" (Upper (call "size" (name "w" ∷ number 1 ∷ [])) ∷ []) ∷ array_entity "d" (Upper (over (name "n") (number 0)) ∷ []) ∷ [])
+    ∷ declares 6 Integer [] (array_entity "c" (Upper (call "size" (name "w" ∷ number 1 ∷ [])) ∷ [])
+    ∷ array_entity "d" (Upper (over (name "n") (number 0)) ∷ []) ∷ [])
     ∷ declares 7 Integer [] (array_entity "e" (Upper (call "size" (name "w" ∷ [])) ∷ []) ∷ []) ∷ []) []))
 
 abbrev pub Bounds : Type 0

@@ -11,7 +11,8 @@ use Rattle.names_types_rows.specs.Build.{number, truth, name, plus, times, over,
 -- 4 m = abs(n) + x
 -- 5 end
 abbrev pub twice : Source
-twice = main (declares 2 Integer [] (scalar_entity "n" ∷ scalar_entity "m" ∷ []) ∷ declares 3 Logical [] (scalar_entity "n" ∷ []) ∷ [])
+twice = main (declares 2 Integer [] (scalar_entity "n" ∷ scalar_entity "m" ∷ []) ∷ declares 3 Logical [] (scalar_entity "n"
+    ∷ []) ∷ [])
     (mentions 4 ("m" ∷ "abs" ∷ "n" ∷ "x" ∷ []))
 
 abbrev pub Twice : Type 0
@@ -32,7 +33,8 @@ Undeclared = breaks_of undeclared ≡ broken_at 2 19 ∷ []
 -- 4 logical, parameter :: l = .true.
 -- 5 end
 abbrev pub constants : Source
-constants = main (declares 2 Integer (Parameter ∷ []) (initial_entity "n" (number 3) ∷ initial_entity "m" (call "mod" (times (name "n") (number 2) ∷ number 4 ∷ [])) ∷ [])
+constants = main (declares 2 Integer (Parameter ∷ []) (initial_entity "n" (number 3)
+    ∷ initial_entity "m" (call "mod" (times (name "n") (number 2) ∷ number 4 ∷ [])) ∷ [])
     ∷ declares 3 Integer [] (array_entity "a" (Upper (name "n") ∷ Upper (plus (name "m") (number 1)) ∷ []) ∷ [])
     ∷ declares 4 Logical (Parameter ∷ []) (initial_entity "l" (truth true) ∷ []) ∷ []) []
 
@@ -75,7 +77,8 @@ Overflow = breaks_of overflow ≡ broken_at 3 23 ∷ []
 -- 3 integer :: a(m)
 -- 4 end
 abbrev pub one_fault : Source
-one_fault = main (declares 2 Integer (Parameter ∷ []) (initial_entity "n" (over (number 1) (number 0)) ∷ initial_entity "m" (plus (name "n") (number 1)) ∷ [])
+one_fault = main (declares 2 Integer (Parameter ∷ []) (initial_entity "n" (over (number 1) (number 0))
+    ∷ initial_entity "m" (plus (name "n") (number 1)) ∷ [])
     ∷ declares 3 Integer [] (array_entity "a" (Upper (name "m") ∷ []) ∷ []) ∷ []) []
 
 abbrev pub OneFault : Type 0
@@ -85,7 +88,8 @@ OneFault = breaks_of one_fault ≡ broken_at 2 23 ∷ []
 -- 2 character, parameter :: c = char(255), d = char(256)
 -- 3 end
 abbrev pub char_range : Source
-char_range = main (declares 2 (Character (Number (pos 1))) (Parameter ∷ []) (initial_entity "c" (call "char" (number 255 ∷ [])) ∷ initial_entity "d" (call "char" (number 256 ∷ [])) ∷ []) ∷ []) []
+char_range = main (declares 2 (Character (Number (pos 1))) (Parameter ∷ []) (initial_entity "c" (call "char" (number 255 ∷ []))
+    ∷ initial_entity "d" (call "char" (number 256 ∷ [])) ∷ []) ∷ []) []
 
 abbrev pub CharRange : Type 0
 CharRange = breaks_of char_range ≡ broken_at 2 23 ∷ []

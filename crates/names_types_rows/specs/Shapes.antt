@@ -26,7 +26,8 @@ Attributes = breaks_of attributes ≡ broken_at 2 20 ∷ broken_at 3 20 ∷ brok
 -- 2 integer, dimension(n) :: a(2), b(3)
 -- 3 end
 abbrev pub entity_bounds_win : Source
-entity_bounds_win = main (declares 2 Integer (Dimension (Upper (name "n") ∷ []) ∷ []) (array_entity "a" (Upper (number 2) ∷ []) ∷ array_entity "b" (Upper (number 3) ∷ []) ∷ []) ∷ []) []
+entity_bounds_win = main (declares 2 Integer (Dimension (Upper (name "n") ∷ []) ∷ []) (array_entity "a" (Upper (number 2) ∷ [])
+    ∷ array_entity "b" (Upper (number 3) ∷ []) ∷ []) ∷ []) []
 
 abbrev pub EntityBoundsWin : Type 0
 EntityBoundsWin = breaks_of entity_bounds_win ≡ broken_at 2 19 ∷ []
@@ -45,8 +46,10 @@ Intended = breaks_of intended ≡ broken_at 2 21 ∷ []
 -- 3 integer :: b(1, 1, 1, 1, 1, 1, 1, 1)
 -- 4 end
 abbrev pub ranks : Source
-ranks = main (declares 2 Integer [] (array_entity "a" (Upper (number 1) ∷ Upper (number 1) ∷ Upper (number 1) ∷ Upper (number 1) ∷ Upper (number 1) ∷ Upper (number 1) ∷ Upper (number 1) ∷ []) ∷ [])
-    ∷ declares 3 Integer [] (array_entity "b" (Upper (number 1) ∷ Upper (number 1) ∷ Upper (number 1) ∷ Upper (number 1) ∷ Upper (number 1) ∷ Upper (number 1) ∷ Upper (number 1) ∷ Upper (number 1) ∷ []) ∷ []) ∷ []) []
+ranks = main (declares 2 Integer [] (array_entity "a" (Upper (number 1) ∷ Upper (number 1) ∷ Upper (number 1) ∷ Upper (number 1)
+    ∷ Upper (number 1) ∷ Upper (number 1) ∷ Upper (number 1) ∷ []) ∷ [])
+    ∷ declares 3 Integer [] (array_entity "b" (Upper (number 1) ∷ Upper (number 1) ∷ Upper (number 1) ∷ Upper (number 1)
+    ∷ Upper (number 1) ∷ Upper (number 1) ∷ Upper (number 1) ∷ Upper (number 1) ∷ []) ∷ []) ∷ []) []
 
 abbrev pub Ranks : Type 0
 Ranks = breaks_of ranks ≡ broken_at 3 24 ∷ []
@@ -73,8 +76,10 @@ Lengths = breaks_of lengths ≡ broken_at 3 25 ∷ broken_at 4 25 ∷ broken_at 
 -- 3 integer, parameter :: n = ichar(c), m = ichar(d)
 -- 4 end
 abbrev pub known_lengths : Source
-known_lengths = main (declares 2 (Character Assumed) (Parameter ∷ []) (initial_entity "c" (text "a") ∷ initial_entity "d" (text "ab") ∷ [])
-    ∷ declares 3 Integer (Parameter ∷ []) (initial_entity "n" (call "ichar" (name "c" ∷ [])) ∷ initial_entity "m" (call "ichar" (name "d" ∷ [])) ∷ []) ∷ []) []
+known_lengths = main (declares 2 (Character Assumed) (Parameter ∷ []) (initial_entity "c" (text "a")
+    ∷ initial_entity "d" (text "ab") ∷ [])
+    ∷ declares 3 Integer (Parameter ∷ []) (initial_entity "n" (call "ichar" (name "c" ∷ []))
+    ∷ initial_entity "m" (call "ichar" (name "d" ∷ [])) ∷ []) ∷ []) []
 
 abbrev pub KnownLengths : Type 0
 KnownLengths = breaks_of known_lengths ≡ broken_at 3 22 ∷ []
@@ -87,7 +92,8 @@ KnownLengths = breaks_of known_lengths ≡ broken_at 3 22 ∷ []
 abbrev pub sizes : Source
 sizes = main (declares 2 Integer [] (array_entity "a" (Upper (number 16777216) ∷ []) ∷ [])
     ∷ declares 3 Integer [] (array_entity "b" (Upper (number 16777217) ∷ []) ∷ [])
-    ∷ declares 4 Integer [] (array_entity "c" (Upper (number 4096) ∷ Both (number 0) (number 4096) ∷ []) ∷ array_entity "d" (Upper (number 0) ∷ Upper (number 16777217) ∷ []) ∷ []) ∷ []) []
+    ∷ declares 4 Integer [] (array_entity "c" (Upper (number 4096) ∷ Both (number 0) (number 4096) ∷ [])
+    ∷ array_entity "d" (Upper (number 0) ∷ Upper (number 16777217) ∷ []) ∷ []) ∷ []) []
 
 abbrev pub Sizes : Type 0
 Sizes = breaks_of sizes ≡ broken_at 3 26 ∷ broken_at 4 26 ∷ []

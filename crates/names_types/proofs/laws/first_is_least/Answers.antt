@@ -1,0 +1,5 @@
+use Rattle.names_types.proofs.Listing.{first_is_least_of, none_is_unbroken}
+use Rattle.names_types.proofs.laws.first_is_least.Goals as goal
+
+pub returns : goal.returns
+returns c = record { least = first_is_least_of; unbroken = none_is_unbroken }
