@@ -1,10 +1,11 @@
 -- The place of an argument's keyword, and the intrinsic of a name.
-use Rattle.std.specs.Prelude.{ℕ, ◌+◌, ◌*◌, ◌-◌, ◌==◌, nat_lt, nat_le, ◌&&◌, if◌then◌else◌, List, [], ◌∷◌, ◌++◌, fold, Option, Some, None, decimal}
-use Rattle.std.specs.List.{position_from}
+use Rattle.std.specs.Prelude.{ℕ, ◌+◌, ◌*◌, ◌-◌, ◌==◌, nat_le, Bool, ◌&&◌, if◌then◌else◌, List, [], ◌∷◌, ◌++◌, fold, Option, Some, None}
+use Rattle.std.specs.List.{list_all, position_from}
 use Rattle.f95_tree.specs.Forms.{Word}
 use Rattle.intrinsic_table.specs.declared.intrinsic.Intrinsic.{Intrinsic}
 use Rattle.intrinsic_table.specs.Finding.{is_word, first_named, beginning}
 use Rattle.intrinsic_table.specs.Interface.{most_numbered}
+use Rattle.intrinsic_table.specs.Standing.{begins_number}
 use Rattle.intrinsic_table.specs.Table.{Arguments, Takes, Numbered, row_of}
 
 -- the intrinsic of a name, whether the name is declared or not
@@ -16,13 +17,17 @@ intrinsic_named (byte ∷ more) = first_named (beginning byte) (byte ∷ more)
 abbrev pub number_written : List ℕ → ℕ
 number_written digits = fold (λ n digit. n * 10 + (digit - 48)) 0 digits
 
--- a1 has place 0, a2 place 1, and so on; there are no leading zeros
+abbrev pub is_digit : ℕ → Bool
+is_digit byte = nat_le 48 byte && nat_le byte 57
+
+-- the digits of a number of at most 32 bits, the first of which isn't 0
+abbrev pub is_numeral : List ℕ → Bool
+is_numeral digits = begins_number digits && (list_all is_digit digits && nat_le (number_written digits) most_numbered)
+
+-- a1 has place 0, a2 place 1, and so on
 abbrev pub numbered_place : Word → Option ℕ
 numbered_place [] = None
-numbered_place (letter ∷ digits) =
-    if (letter == 97 && is_word digits (decimal (number_written digits)))
-    && (nat_lt 0 (number_written digits) && nat_le (number_written digits) most_numbered)
-    then Some (number_written digits - 1) else None
+numbered_place (letter ∷ digits) = if letter == 97 && is_numeral digits then Some (number_written digits - 1) else None
 
 abbrev pub keyword_place_in : Arguments → Word → Option ℕ
 keyword_place_in (Takes needed optional) word = position_from (is_word word) 0 (needed ++ optional)

@@ -1,4 +1,5 @@
--- The names that expressions and declarations name. The variables of implied DOs are among them, keywords aren't.
+-- The names that expressions and declarations name. The variables of implied DOs are among them, since they must be declared too;
+-- keywords aren't.
 use Rattle.std.specs.Prelude.{ℕ, List, [], ◌∷◌, ◌++◌, map, Option, Some, None}
 use Rattle.std.specs.List.{flat_map}
 use Rattle.f95_tree.specs.Forms.{Word}

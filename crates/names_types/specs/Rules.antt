@@ -64,7 +64,7 @@ declared_twice_on c =
 abbrev pub undeclared_on : Scope → List ℕ
 undeclared_on c = lines_where (λ (m : Mention). m.line) (λ (m : Mention). is_undeclared c m.name) (mentions c)
 
--- ---- rule 20: attributes don't go together
+-- ---- rule 20: attributes don't go together; those of DIMENSION count only where the entity has no bounds of its own
 
 abbrev pub is_open : Dim → Bool
 is_open (Upper upper) = false
@@ -126,6 +126,7 @@ wrong_attributes_on c = objects_where c (attributes_disagree c)
 
 -- ---- rule 21: a dummy has no declaration or no INTENT, or stands twice in its list, or INTENT stands on something else
 
+-- INTENT anywhere among the declarations of a dummy is its INTENT; what else stands there is for rule 18
 abbrev pub is_wrong_dummy : Scope → Word → Bool
 is_wrong_dummy c name = is_repeated c name || not (some_object c has_intent name)
 
@@ -176,7 +177,8 @@ value_exprs no_value = []
 value_exprs (value e more) = e ∷ value_exprs more
 value_exprs (loop body variable first last step more) = value_exprs more
 
--- the values of a constructor without implied DO, or the expression itself
+-- the values of a constructor without implied DO, or the expression itself; a constructor in brackets or in another one is no constant
+-- expression. Its rank, its extents and its lengths are for later rules
 abbrev pub element_exprs : Expr → List Expr
 element_exprs (Constructor values) = if has_loop values then Constructor values ∷ [] else value_exprs values
 element_exprs e = e ∷ []
@@ -221,7 +223,8 @@ abbrev pub has_kind : Kind → Option Valued → Bool
 has_kind k None = false
 has_kind k (Some v) = is_kind k v.facts.kind
 
--- ---- rule 22: a declaration or a prefix needs a constant expression and this is none, or its type doesn't fit
+-- ---- rule 22: a declaration or a prefix needs a constant expression and this is none, or its type doesn't fit; an expression whose
+-- kinds don't fit each other is none, and one with a name that breaks rule 19 or 28 breaks no further rule
 
 abbrev pub is_no_constant : Scope → Demand → Bool
 is_no_constant c d = is_settled c d.expr && not (has_kind d.kind (valued d.sense d.expr))
@@ -240,7 +243,8 @@ constant_faults_on c =
 abbrev pub rank_too_great_on : Scope → List ℕ
 rank_too_great_on c = objects_where c (λ s o. nat_lt greatest_rank (length o.dims))
 
--- ---- rule 25: a length is outside 0 to 255, or `*` stands on something that is neither dummy nor named constant
+-- ---- rule 25: a length is outside 0 to 255, or `*` stands on something that is neither dummy nor named constant; the value of a named
+-- constant of length `*` may be longer
 
 abbrev pub is_outside : Worth → Bool
 is_outside (Is (scalar.Int z)) = is_none (length_within (Is (scalar.Int z)))
@@ -262,7 +266,7 @@ has_wrong_length c s Begins = false
 abbrev pub wrong_length_on : Scope → List ℕ
 wrong_length_on c = lines_where site_line (λ (s : Sited). has_wrong_length c s s.entry.form) (sites c)
 
--- ---- rule 26: a declared shape that is constant has more than 2^24 elements
+-- ---- rule 26: a declared shape that is constant has more than 2^24 elements; in a procedure too, where all bounds are constant
 
 abbrev pub integer_in : Worth → Option ℤ
 integer_in (Is (scalar.Int z)) = Some z
@@ -345,7 +349,7 @@ wrong_results c (InProcedure p) =
 abbrev pub wrong_result_on : Scope → List ℕ
 wrong_result_on c = wrong_results c c.place
 
--- ---- rule 30: a bound in a procedure is no specification expression
+-- ---- rule 30: a bound in a procedure is no specification expression; a fault in it comes when the procedure runs
 
 abbrev pub is_no_specification : Scope → Sited → Expr → Bool
 is_no_specification c s e = is_settled c e && not (has_kind kind.Int (valued (specification_sense c s.before) e))

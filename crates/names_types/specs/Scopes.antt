@@ -155,7 +155,7 @@ pub data Place : Type 0 where
   InModule : Place
   InProcedure : Procedure → Place
 
--- `above` has the modules that end before, the nearest first; `host` what the names of the host mean
+-- `above` has the modules that end before, the nearest first, so that a procedure doesn't see its own module there; `host` what the names of the host mean
 pub record Scope : Type 0 where
   pub above : List Offer
   pub host : List Meant
@@ -220,7 +220,8 @@ heading_entries InMain = []
 heading_entries InModule = []
 heading_entries (InProcedure p) = typed_result p.line p.function
 
--- the declarations of a scope in the order of the text
+-- the declarations of a scope in the order of the text. The names of programs, modules and constructs are none, nor are the list of
+-- dummies and RESULT
 abbrev pub entries : Scope → List Entry
 entries c = heading_entries c.place ++ (brought_once [] (flat_map (brought_by c.above) c.part.uses)
     ++ (flat_map declared_by c.part.declarations ++ map begun_by c.procedures))
@@ -392,7 +393,8 @@ scopes s = module_scopes_from 0 [] s.modules ++ with_procedures (host_scope (off
 abbrev pub is_own : Scope → Word → Bool
 is_own c name = is_among (own_names c) name
 
--- it has no declaration, in the scope or in its host, and is no intrinsic
+-- it has no declaration, in the scope or in its host, and is no intrinsic; that an intrinsic's name stands where no function can is
+-- for later rules
 abbrev pub is_undeclared : Scope → Word → Bool
 is_undeclared c name = not (is_own c name) && (is_none (meaning_in c.host name) && is_none (intrinsic_named name))
 

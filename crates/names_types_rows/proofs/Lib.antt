@@ -2,3 +2,4 @@ pub mod ScalarsRows
 pub mod ShapesRows
 pub mod ProceduresRows
 pub mod ModulesRows
+pub mod CornersRows

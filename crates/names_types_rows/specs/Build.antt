@@ -5,7 +5,7 @@ use Rattle.a95_base.specs.declared.scalar.Scalar.TheVariants as scalar
 use Rattle.f95_tree.specs.Forms.{Word}
 use Rattle.f95_tree.specs.declared.terminal.Operator.TheVariants as operator
 use Rattle.f95_tree.specs.declared.declaration.Intent.TheVariants as intent
-use Rattle.names_types.specs.Plain.{Expr, Literal, Named, Constructor, Binary, Whole, Applied, Items, no_item, plain, Values, no_value, value, TypeSpec, Dim, Attribute, Intended, Entity, Declaration, Use, Mention, Part, Procedure, Host, Module, Source}
+use Rattle.names_types.specs.Plain.{Expr, Literal, Named, Constructor, Binary, Whole, Applied, Items, no_item, plain, keyword, Values, no_value, value, TypeSpec, Dim, Attribute, Intended, Entity, Declaration, Use, Mention, Part, Procedure, Host, Module, Source}
 
 -- ---- expressions
 
@@ -36,6 +36,14 @@ items (e ∷ more) = plain e (items more)
 
 abbrev pub call : String → List Expr → Expr
 call n es = Named (Applied (codes n) (items es))
+
+-- arguments with keywords
+abbrev pub keyed_items : List (String × Expr) → Items
+keyed_items [] = no_item
+keyed_items (a ∷ more) = keyword (codes a.0) a.1 (keyed_items more)
+
+abbrev pub keyed_call : String → List (String × Expr) → Expr
+keyed_call n args = Named (Applied (codes n) (keyed_items args))
 
 abbrev pub listed : List Expr → Values
 listed [] = no_value

@@ -3,3 +3,4 @@ pub mod Scalars
 pub mod Shapes
 pub mod Procedures
 pub mod Modules
+pub mod Corners

@@ -7,9 +7,9 @@ ghost use Rattle.names_types_rows.specs.Scalars.{Twice, Undeclared, Constants, T
 ghost use Rattle.names_types_rows.specs.Shapes.{Attributes, EntityBoundsWin, Intended, Ranks, Lengths, KnownLengths, Sizes};
 ghost use Rattle.names_types_rows.specs.Procedures.{DummyAlone, IntentLater, ListedTwice, NoResult, TypedTwice, AssumedResult, OfTheHost, Bounds, Unread};
 ghost use Rattle.names_types_rows.specs.Modules.{Life, BroughtAgain, BroughtTwice, NotAbove, ModuleVariable, PrefixOfUse};
+ghost use Rattle.names_types_rows.specs.Corners.{AssumedPrefix, HiddenSize, OwnModule, NearestModule, ConstantBounds, UndeclaredBound, PrefixBeforeUse, NoDummies, Keywords};
 
 /// Names and constants of a main program, and what each program breaks.
-#[tactic(auto, using(crate::proofs::ScalarsRows::twice_row, crate::proofs::ScalarsRows::undeclared_row, crate::proofs::ScalarsRows::constants_row, crate::proofs::ScalarsRows::too_early_row, crate::proofs::ScalarsRows::other_kind_row, crate::proofs::ScalarsRows::overflow_row, crate::proofs::ScalarsRows::one_fault_row, crate::proofs::ScalarsRows::char_range_row, crate::proofs::ScalarsRows::constructors_row))]
 pub fn scalars_rows()
     ensures twice { Twice }
     ensures undeclared { Undeclared }
@@ -23,7 +23,6 @@ pub fn scalars_rows()
 {}
 
 /// Attributes, ranks, lengths and shapes of a main program.
-#[tactic(auto, using(crate::proofs::ShapesRows::attributes_row, crate::proofs::ShapesRows::entity_bounds_win_row, crate::proofs::ShapesRows::intended_row, crate::proofs::ShapesRows::ranks_row, crate::proofs::ShapesRows::lengths_row, crate::proofs::ShapesRows::known_lengths_row, crate::proofs::ShapesRows::sizes_row))]
 pub fn shapes_rows()
     ensures attributes { Attributes }
     ensures entity_bounds_win { EntityBoundsWin }
@@ -35,7 +34,6 @@ pub fn shapes_rows()
 {}
 
 /// Dummies, results, hosts and bounds of procedures.
-#[tactic(auto, using(crate::proofs::ProceduresRows::dummy_alone_row, crate::proofs::ProceduresRows::intent_later_row, crate::proofs::ProceduresRows::listed_twice_row, crate::proofs::ProceduresRows::no_result_row, crate::proofs::ProceduresRows::typed_twice_row, crate::proofs::ProceduresRows::assumed_result_row, crate::proofs::ProceduresRows::of_the_host_row, crate::proofs::ProceduresRows::bounds_row, crate::proofs::ProceduresRows::unread_row))]
 pub fn procedures_rows()
     ensures dummy_alone { DummyAlone }
     ensures intent_later { IntentLater }
@@ -49,7 +47,6 @@ pub fn procedures_rows()
 {}
 
 /// Modules: what USE brings.
-#[tactic(auto, using(crate::proofs::ModulesRows::life_row, crate::proofs::ModulesRows::brought_again_row, crate::proofs::ModulesRows::brought_twice_row, crate::proofs::ModulesRows::not_above_row, crate::proofs::ModulesRows::module_variable_row, crate::proofs::ModulesRows::prefix_of_use_row))]
 pub fn modules_rows()
     ensures life { Life }
     ensures brought_again { BroughtAgain }
@@ -57,4 +54,17 @@ pub fn modules_rows()
     ensures not_above { NotAbove }
     ensures module_variable { ModuleVariable }
     ensures prefix_of_use { PrefixOfUse }
+{}
+
+/// Corners of the rules: what a prefix says, what hides an intrinsic, which module is meant, and which rule speaks alone.
+pub fn corners_rows()
+    ensures assumed_prefix { AssumedPrefix }
+    ensures hidden_size { HiddenSize }
+    ensures own_module { OwnModule }
+    ensures nearest_module { NearestModule }
+    ensures constant_bounds { ConstantBounds }
+    ensures undeclared_bound { UndeclaredBound }
+    ensures prefix_before_use { PrefixBeforeUse }
+    ensures no_dummies { NoDummies }
+    ensures keywords { Keywords }
 {}
