@@ -177,8 +177,8 @@ value_exprs no_value = []
 value_exprs (value e more) = e ∷ value_exprs more
 value_exprs (loop body variable first last step more) = value_exprs more
 
--- the values of a constructor without implied DO, or the expression itself; a constructor in brackets or in another one is no constant
--- expression. Its rank, its extents and its lengths are for later rules
+-- the values of a constructor without implied DO, or the expression itself; a constructor in brackets or in another one is no
+-- constant expression. Its rank, its extents and its lengths are for later rules
 abbrev pub element_exprs : Expr → List Expr
 element_exprs (Constructor values) = if has_loop values then Constructor values ∷ [] else value_exprs values
 element_exprs e = e ∷ []
@@ -223,8 +223,8 @@ abbrev pub has_kind : Kind → Option Valued → Bool
 has_kind k None = false
 has_kind k (Some v) = is_kind k v.facts.kind
 
--- ---- rule 22: a declaration or a prefix needs a constant expression and this is none, or its type doesn't fit; an expression whose
--- kinds don't fit each other is none, and one with a name that breaks rule 19 or 28 breaks no further rule
+-- ---- rule 22: a declaration or a prefix needs a constant expression and this is none, or its type doesn't fit; an expression
+-- whose kinds don't fit each other is none, and one with a name that breaks rule 19 or 28 breaks no further rule
 
 abbrev pub is_no_constant : Scope → Demand → Bool
 is_no_constant c d = is_settled c d.expr && not (has_kind d.kind (valued d.sense d.expr))
@@ -243,8 +243,8 @@ constant_faults_on c =
 abbrev pub rank_too_great_on : Scope → List ℕ
 rank_too_great_on c = objects_where c (λ s o. nat_lt greatest_rank (length o.dims))
 
--- ---- rule 25: a length is outside 0 to 255, or `*` stands on something that is neither dummy nor named constant; the value of a named
--- constant of length `*` may be longer
+-- ---- rule 25: a length is outside 0 to 255, or `*` stands on something that is neither dummy nor named constant; the value of
+-- a named constant of length `*` may be longer
 
 abbrev pub is_outside : Worth → Bool
 is_outside (Is (scalar.Int z)) = is_none (length_within (Is (scalar.Int z)))

@@ -155,7 +155,8 @@ pub data Place : Type 0 where
   InModule : Place
   InProcedure : Procedure → Place
 
--- `above` has the modules that end before, the nearest first, so that a procedure doesn't see its own module there; `host` what the names of the host mean
+-- `above` has the modules that end before, the nearest first, so that a procedure doesn't see its own
+-- module there; `host` what the names of the host mean
 pub record Scope : Type 0 where
   pub above : List Offer
   pub host : List Meant

@@ -143,7 +143,8 @@ keywords =
     main (declares 2 Integer (Parameter ∷ []) (initial_entity "n"
     (keyed_call "max" (("a4", number 3) ∷ ("a2", number 5) ∷ ("a1", number 1) ∷ [])) ∷ [])
     ∷ declares 3 (Character (Computed (times (name "n") (number 60)))) [] (scalar_entity "c" ∷ [])
-    ∷ declares 4 Integer (Parameter ∷ []) (initial_entity "m" (keyed_call "max" (("a1", number 1) ∷ ("a3", number 2) ∷ [])) ∷ []) ∷ []) []
+    ∷ declares 4 Integer (Parameter ∷ []) (initial_entity "m"
+    (keyed_call "max" (("a1", number 1) ∷ ("a3", number 2) ∷ [])) ∷ []) ∷ []) []
 
 abbrev pub Keywords : Type 0
 Keywords = breaks_of keywords ≡ broken_at 4 22 ∷ broken_at 3 25 ∷ []
