@@ -9,3 +9,4 @@ pub mod Broken
 pub mod Listed
 pub mod Laws
 pub mod Nodes
+pub mod StatementNodes

@@ -47,9 +47,12 @@ use Rattle.f95_tree.specs.declared.source.Main.{Main}
 use Rattle.f95_tree.specs.declared.source.Subprogram.{Subprogram}
 use Rattle.f95_tree.specs.declared.source.Section.{Section}
 use Rattle.f95_tree.specs.declared.source.Statement.{Statement}
+use Rattle.f95_tree.specs.declared.source.Branch.{Branch}
+use Rattle.f95_tree.specs.declared.source.Case.{Case}
+use Rattle.f95_tree.specs.declared.source.Otherwise.{Otherwise}
 use Rattle.f95_tree.specs.declared.source.Statement.TheOpen.{Statement-F, Branch-F, Case-F, Otherwise-F}
 use Rattle.f95_tree.specs.declared.source.Statement.TheOpen as statement_layer
-use Rattle.f95_tree.specs.declared.source.Statement.TheFolds.{fold-Statement}
+use Rattle.f95_tree.specs.declared.source.Statement.TheFolds.{fold-Statement, fold-Branch, fold-Case, fold-Otherwise}
 use Rattle.f95_tree.specs.declared.source.WhereBlock.{WhereBlock}
 use Rattle.f95_tree.specs.declared.source.WhereStatement.TheOpen.{WhereStatement-F, ElseWhere-F, WhereBlock-F}
 use Rattle.f95_tree.specs.declared.source.WhereStatement.TheOpen as where_layer
@@ -268,6 +271,15 @@ statement_at (statement_layer.Forall l header xs end) = mentions_on l.0 (header_
 
 abbrev pub statement_mentions : Statement → Mentions
 statement_mentions = fold-Statement Mentions Mentions Mentions Mentions statement_at branch_at case_at otherwise_at
+
+abbrev pub branch_mentions : Branch → Mentions
+branch_mentions = fold-Branch Mentions Mentions Mentions Mentions statement_at branch_at case_at otherwise_at
+
+abbrev pub case_mentions : Case → Mentions
+case_mentions = fold-Case Mentions Mentions Mentions Mentions statement_at branch_at case_at otherwise_at
+
+abbrev pub otherwise_mentions : Otherwise → Mentions
+otherwise_mentions = fold-Otherwise Mentions Mentions Mentions Mentions statement_at branch_at case_at otherwise_at
 
 -- ---- units
 

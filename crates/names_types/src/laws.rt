@@ -1,6 +1,7 @@
 //! Laws of scopes and of rules: each is the contract of a function that does nothing.
 ghost use Rattle.names_types.specs.Laws.{ListedAreBroken, FirstIsLeast, NoneIsUnbroken, EachDeclaredOnce, HostIsDeclared, KnownWithin};
 ghost use Rattle.names_types.specs.Nodes.{Literals, References, Brackets, Constructors, Signs, Operations, WholeNames, AppliedNames, Substrings};
+ghost use Rattle.names_types.specs.StatementNodes.{Actions, Ifs, IfBlocks, Selects, Loops, Wheres, Foralls};
 
 /// The list of a source's breaks has all that it breaks, and nothing else.
 pub fn listed_are_broken()
@@ -24,6 +25,17 @@ pub fn expressions_as_written()
     ensures whole { WholeNames }
     ensures applied { AppliedNames }
     ensures substrings { Substrings }
+{}
+
+/// The names of each statement are those that it names itself, and those of what stands in it.
+pub fn statements_as_written()
+    ensures actions { Actions }
+    ensures ifs { Ifs }
+    ensures if_blocks { IfBlocks }
+    ensures selects { Selects }
+    ensures loops { Loops }
+    ensures wheres { Wheres }
+    ensures foralls { Foralls }
 {}
 
 /// Where no name is declared twice, each scope declares each of its names once.

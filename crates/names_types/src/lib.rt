@@ -9,5 +9,5 @@ mod laws;
 
 pub use laws::{
     each_declared_once, expressions_as_written, first_is_least, host_is_declared, known_within,
-    listed_are_broken,
+    listed_are_broken, statements_as_written,
 };
