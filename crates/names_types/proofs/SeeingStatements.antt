@@ -20,7 +20,8 @@ pub if_blocks : IfBlocks
 if_blocks l n e body branches None end = ap statement_mentions (sym (statement.rolls-IfBlock l n e body branches None end))
     ∙ fold-roll-Statement Mentions Mentions Mentions Mentions statement_at branch_at case_at otherwise_at
     (layer.IfBlock l n e body branches None end)
-if_blocks l n e body branches (Some other) end = ap statement_mentions (sym (statement.rolls-IfBlock l n e body branches (Some other) end))
+if_blocks l n e body branches (Some other) end =
+    ap statement_mentions (sym (statement.rolls-IfBlock l n e body branches (Some other) end))
     ∙ fold-roll-Statement Mentions Mentions Mentions Mentions statement_at branch_at case_at otherwise_at
     (layer.IfBlock l n e body branches (Some other) end)
 
