@@ -1,5 +1,5 @@
 -- All forms: what is read is spelled as the terminals and well formed, and what is well formed is read from what spells it.
-use Rattle.std.proofs.Common.{◌≡◌, true, false, ◌&&◌, List, [], ◌∷◌, ◌++◌, map, Option, Some, None, sym, ◌∙◌, ap, subst, refl, append-nil}
+use Rattle.std.proofs.Common.{◌≡◌, ℕ, ◌≤◌, true, false, ◌&&◌, List, [], ◌∷◌, ◌++◌, map, Option, Some, None, sym, ◌∙◌, ap, subst, refl, append-nil}
 use Rattle.std.specs.Prelude.{option_map, option_and_then, codes, if◌then◌else◌}
 use Rattle.f95_lexer.specs.declared.token.Token.{Token}
 use Rattle.f95_tree.specs.declared.expression.Expression.{Expression}
@@ -42,7 +42,8 @@ use Rattle.f95_statements.proofs.ActionLaws.{action_sound, action_again}
 use Rattle.f95_statements.proofs.ProcedureLaws.{procedure_sound, procedure_again, typed_word_sound, declaration_first, declaration_typed, procedure_first, procedure_typed}
 use Rattle.f95_parser.specs.Reading.{is_then, select_of, do_of, labelled, label_of, case_of, else_of, end_block, end_keyed, end_of, use_of, implicit_of, unit_by, if_by, where_by, forall_by, block_form, keyed_form, named_form, form_by, form_of}
 use Rattle.f95_parser.specs.Tokens.{terminals_of}
-use Rattle.f95_parser.specs.Rules.{IsOfForm, IsFormless}
+use Rattle.f95_parser.specs.Rules.{IsOfForm, IsFormless, most_open, most_brackets}
+use Rattle.f95_parser.proofs.Unbroken.{IsUnbroken, unbroken_by}
 use Rattle.f95_parser.proofs.BlockLaws.{is_as, chosen, IsBlock, then_sound, if_block_again, select_sound, select_again, do_sound, do_again, labelled_sound, label_sound, case_sound, case_again, else_sound, else_again, else_if_reads, else_where_reads, end_block_sound}
 use Rattle.f95_parser.proofs.UnitLaws.{IsUnit, use_sound, use_again, implicit_sound, unit_by_sound}
 
@@ -330,3 +331,7 @@ formless tokens h form is = let q = sym h ∙ reads_as tokens form is in absurd 
 
 pub one_form : (tokens : List Token) (a b : Form) → IsOfForm tokens a → IsOfForm tokens b → a ≡ b
 one_form tokens a b is_a is_b = let q = sym (reads_as tokens a is_a) ∙ reads_as tokens b is_b in cc
+
+pub unbroken_form : (line : ℕ) (tokens : List Token) → IsUnbroken line tokens
+    → (form : Form) × IsOfForm tokens form × (most_open 0 tokens ≤ most_brackets)
+unbroken_form line tokens = unbroken_by line tokens (form_of (terminals_of tokens)) (of_form tokens) (formless tokens)

@@ -2,3 +2,4 @@ pub mod Depths
 pub mod BlockLaws
 pub mod UnitLaws
 pub mod FormLaws
+pub mod Unbroken

@@ -25,6 +25,10 @@ abbrev pub most_open : ℕ → List Token → ℕ
 most_open n [] = n
 most_open n (t ∷ ts) = max n (most_open (open_behind n t) ts)
 
+-- so many brackets may be open at one token
+abbrev pub most_brackets : ℕ
+most_brackets = 64
+
 -- the tokens are of no form
 abbrev pub IsFormless : List Token → Type 0
 IsFormless tokens = (form : Form) → IsOfForm tokens form → ⊥
@@ -37,9 +41,9 @@ HasNoForm tokens = IsFormless tokens × (begins_left_out tokens ≡ false)
 abbrev pub IsLeftOut : List Token → Type 0
 IsLeftOut tokens = IsFormless tokens × (begins_left_out tokens ≡ true)
 
--- 13: of a form, with more than 64 brackets open at one token
+-- 13: of a form, with more than so many brackets open at one token
 abbrev pub OpensTooMuch : List Token → Type 0
-OpensTooMuch tokens = (form : Form) × IsOfForm tokens form × (64 < most_open 0 tokens)
+OpensTooMuch tokens = (form : Form) × IsOfForm tokens form × (most_brackets < most_open 0 tokens)
 
 -- the rule that a refusal names holds on the statement's line, and no lesser one
 pub data Broken (line : ℕ) (tokens : List Token) : ℕ → ℕ → Type 0 where

@@ -12,5 +12,5 @@ mod read;
 mod tokens;
 mod words;
 
-pub use laws::one_form;
+pub use laws::{one_form, unbroken_form};
 pub use read::read_form;

@@ -1,7 +1,7 @@
 //! `read_form`: tokens to a form.
 
 ghost use Rattle.std.specs.Prelude.{◌≡◌, ◌≤◌, ◌<◌, IfOk, IfErr, OnOk};
-ghost use Rattle.f95_parser.specs.Rules.{IsOfForm, IsFormless, Refuses, begins_left_out, most_open};
+ghost use Rattle.f95_parser.specs.Rules.{IsOfForm, IsFormless, Refuses, begins_left_out, most_open, most_brackets};
 
 use crate::form::form_of;
 use crate::tokens::{most_open, terminals_of};
@@ -46,7 +46,7 @@ fn refusal(line: Line, tokens: &[Token]) -> PhaseError
 /// begins a statement that the language leaves out, 13 where they are of one, with more than 64 brackets open at one token.
 pub fn read_form(alloc: Global, line: Line, tokens: &[Token]) -> Result<Form, PhaseError>
     ensures read { IfOk result (IsOfForm tokens.now) }
-    ensures few { OnOk result (most_open 0 tokens.now ≤ 64) }
+    ensures few { OnOk result (most_open 0 tokens.now ≤ most_brackets) }
     ensures refused { IfErr result (Refuses line.0 tokens.now) }
 {
     let terminals = terminals_of(alloc, tokens)?;
