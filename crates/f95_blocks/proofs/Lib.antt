@@ -1,11 +1,2 @@
-pub mod Texts
-pub mod Opened
-pub mod Sound
-pub mod Units
-pub mod Complete
-pub mod Again
-pub mod Parts
-pub mod Sources
-pub mod Exact
-pub mod Judged
-pub mod Least
+pub mod ByRole
+pub mod Steps

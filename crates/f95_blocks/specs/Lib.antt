@@ -1,5 +1,1 @@
-pub mod Lists
-pub mod Placed
-pub mod Nesting
-pub mod Machine
-pub mod Breaks
+pub mod Units

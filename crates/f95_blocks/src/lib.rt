@@ -1,13 +1,12 @@
-//! Forms nested into modules and a main program: phase 3 of the reader. A list of forms, each with its line, nests to a source
-//! where the source is printed as the list and each of its statements may stand where it stands. `specs/Placed` prints statements
-//! in their places, `specs/Nesting` says what nests and when each rule is broken, and `specs/Machine` reads one statement a step.
+//! Forms nested into modules and a main program: phase 3 of the reader. `nest` answers the source that a list of forms nests to,
+//! or the least rule of this phase that they break, as `f95_nesting` defines both.
 #![tactic(auto)]
 
-mod laws;
-mod open;
+mod ends;
+mod mark;
+mod moves;
+mod read;
+mod roles;
+mod sections;
 
-pub use laws::{nests_as_read, one_nesting, rules_as_noted, unbroken_forms_nest};
-pub use open::{
-    Block, Body, BranchHead, CaseHead, DoHead, Frame, Host, IfHead, Inner, Place, SelectHead,
-    State, WhereFrame, WherePart,
-};
+pub use read::nest;

@@ -1,5 +1,0 @@
-use Rattle.f95_blocks.proofs.Exact.{one_nesting}
-use Rattle.f95_blocks.proofs.laws.one_nesting.Goals as goal
-
-pub returns : goal.returns
-returns c = one_nesting

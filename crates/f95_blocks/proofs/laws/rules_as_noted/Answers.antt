@@ -1,5 +1,0 @@
-use Rattle.f95_blocks.proofs.Judged.{broken_is, is_broken}
-use Rattle.f95_blocks.proofs.laws.rules_as_noted.Goals as goal
-
-pub returns : goal.returns
-returns c = record { noted = broken_is; broken = is_broken }

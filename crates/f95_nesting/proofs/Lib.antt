@@ -1,0 +1,14 @@
+pub mod Texts
+pub mod Opened
+pub mod Sound
+pub mod Units
+pub mod Complete
+pub mod Again
+pub mod Parts
+pub mod Sources
+pub mod Exact
+pub mod Judged
+pub mod Least
+pub mod Defaults
+pub mod Enclosing
+pub mod ByRole
