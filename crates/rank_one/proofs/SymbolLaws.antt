@@ -16,7 +16,7 @@ map_some : (o : Option ℕ) (k : ℕ) → option_map suc o ≡ Some k → (P : T
 map_some None k h P f = absurd (cc)
 map_some (Some j) k h P f = f j refl (sym (some_is (suc j) k h))
 
-place_cons : (s : Symbol) (symbols : List Symbol) (name : List ℕ) → place_of (s ∷ symbols) name ≡ cond (bytes_eq s.name name) (Some 0) (option_map suc (place_of symbols name))
+pub place_cons : (s : Symbol) (symbols : List Symbol) (name : List ℕ) → place_of (s ∷ symbols) name ≡ cond (bytes_eq s.name name) (Some 0) (option_map suc (place_of symbols name))
 unfolding place_of
 place_cons s symbols name = refl
 

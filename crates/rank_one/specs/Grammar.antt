@@ -1,90 +1,91 @@
--- How a source is spelled, statement by statement, in tokens.
-use Rattle.std.specs.Prelude.{ℕ, Bool, true, false, List, [], ◌∷◌, ◌++◌, map, codes}
-use Rattle.std.specs.List.{flat_map}
-use Rattle.rank_one.specs.declared.token.Token.{Token}
-use Rattle.rank_one.specs.declared.token.Token.TheVariants as token
-use Rattle.rank_one.specs.declared.form.Entity.{Entity}
-use Rattle.rank_one.specs.declared.form.Declaration.{Declaration}
+-- How each statement of the first form is printed as a tree of the reader, and which numbers it may have.
+use Rattle.std.specs.Prelude.{◌≡◌, ℕ, pos, nat_le, Bool, true, false, ◌&&◌, List, [], ◌∷◌, map, fold, Some, None}
+use Rattle.std.specs.List.{list_all}
+use Rattle.a95_base.specs.declared.source.Line.{Line}
+use Rattle.f95_tree.specs.Forms.{Word}
+use Rattle.f95_tree.specs.declared.expression.Expression.{Expression}
+use Rattle.f95_tree.specs.declared.expression.Expression.TheVariants as e
+use Rattle.f95_tree.specs.declared.expression.Reference.TheVariants as r
+use Rattle.f95_tree.specs.declared.expression.Literal.TheVariants as literal
+use Rattle.f95_tree.specs.declared.terminal.Operator.{Operator}
+use Rattle.f95_tree.specs.declared.terminal.Operator.TheVariants as operator
+use Rattle.f95_tree.specs.declared.source.Statement.{Statement}
+use Rattle.f95_tree.specs.declared.source.Statement.TheVariants as statement
+use Rattle.f95_tree.specs.declared.action.Action.{Action}
+use Rattle.f95_tree.specs.declared.action.Action.TheVariants as act
+use Rattle.f95_tree.specs.declared.declaration.Declaration.{Declaration}
+use Rattle.f95_tree.specs.declared.declaration.Entity.{Entity}
+use Rattle.f95_tree.specs.declared.declaration.TypeSpec.TheVariants as type_spec
+use Rattle.f95_tree.specs.declared.declaration.Dim.TheVariants as dim
 use Rattle.rank_one.specs.declared.form.NamedAction.{NamedAction}
 use Rattle.rank_one.specs.declared.form.NamedAction.TheVariants as action
+use Rattle.rank_one.specs.declared.form.NamedArray.{NamedArray}
 use Rattle.rank_one.specs.declared.form.NamedSum.{NamedSum}
-use Rattle.rank_one.specs.declared.form.NamedAddend.{NamedAddend}
 use Rattle.rank_one.specs.declared.form.NamedTerm.{NamedTerm}
+use Rattle.rank_one.specs.declared.form.NamedAddend.{NamedAddend}
 use Rattle.rank_one.specs.declared.form.NamedFactor.{NamedFactor}
 use Rattle.rank_one.specs.declared.form.NamedFactor.TheVariants as factor
-use Rattle.rank_one.specs.declared.form.Form.{Form}
-use Rattle.rank_one.specs.declared.form.Form.TheVariants as form
-use Rattle.rank_one.specs.Tokens.{Lined}
 
--- a name, declarations, statements, end
-pub record Source : Type 0 where
-  pub opening : Lined (List ℕ)
-  pub declarations : List (Lined Declaration)
-  pub actions : List (Lined NamedAction)
-  pub ending : ℕ
+abbrev pub number_tree : ℕ → Expression
+number_tree n = e.Literal (literal.Number (pos n))
 
--- each with a token before it
-abbrev pub each_after : {A : Type 0} → Token → (A → List Token) → List A → List Token
-each_after before spell items = flat_map (λ x. before ∷ spell x) items
+abbrev pub name_tree : Word → Expression
+name_tree n = e.Reference (r.Whole n)
 
--- program name
-abbrev pub program_tokens : List ℕ → List Token
-program_tokens name = token.Word (codes "program") ∷ token.Word name ∷ []
+abbrev pub factor_tree : NamedFactor → Expression
+factor_tree (factor.Number n) = number_tree n
+factor_tree (factor.Name n) = name_tree n
+
+-- factors and terms, each bound to all before it
+abbrev pub times : Expression → NamedFactor → Expression
+times tree f = e.Binary operator.Multiply tree (factor_tree f)
+
+abbrev pub term_tree : NamedTerm → Expression
+term_tree t = fold times (factor_tree t.first) t.rest
+
+abbrev pub sign_of : Bool → Operator
+sign_of true = operator.Subtract
+sign_of false = operator.Add
+
+abbrev pub plus : Expression → NamedAddend → Expression
+plus tree a = e.Binary (sign_of a.minus) tree (term_tree a.term)
+
+abbrev pub sum_tree : NamedSum → Expression
+sum_tree s = fold plus (term_tree s.first) s.rest
+
+abbrev pub action_tree : NamedAction → Action
+action_tree (action.Assign target value) = act.Assignment (record { to = r.Whole target; value = sum_tree value })
+action_tree (action.Print first rest) = act.Print (map name_tree (first ∷ rest))
 
 -- name ( extent )
-abbrev pub entity_tokens : Entity → List Token
-entity_tokens e = token.Word e.name ∷ token.Open ∷ token.Number e.extent ∷ token.Close ∷ []
+abbrev pub array_tree : NamedArray → Entity
+array_tree a = record { name = a.name; dims = Some (dim.Upper (number_tree a.extent) ∷ []); initial = None }
 
--- integer :: entity {, entity}
-abbrev pub declaration_tokens : Declaration → List Token
-declaration_tokens d = token.Word (codes "integer") ∷ token.Colons ∷ (entity_tokens d.first ++ each_after token.Comma entity_tokens d.rest)
+-- INTEGER, with or without ::
+abbrev pub declaration_tree : Bool → List NamedArray → Declaration
+declaration_tree colons arrays = record { of = type_spec.Integer; attributes = []; colons = colons; entities = map array_tree arrays }
 
--- name | number
-abbrev pub factor_token : NamedFactor → Token
-factor_token (factor.Number n) = token.Number n
-factor_token (factor.Name name) = token.Word name
+-- each number is one of the language
 
--- factor {* factor}
-abbrev pub term_tokens : NamedTerm → List Token
-term_tokens t = factor_token t.first ∷ each_after token.Star (λ f. factor_token f ∷ []) t.rest
+abbrev pub is_integer_value : ℕ → Bool
+is_integer_value n = nat_le n 2147483647
 
-abbrev pub sign_token : Bool → Token
-sign_token true = token.Minus
-sign_token false = token.Plus
+abbrev pub fits_factor : NamedFactor → Bool
+fits_factor (factor.Number n) = is_integer_value n
+fits_factor (factor.Name n) = true
 
--- + or - term
-abbrev pub addend_tokens : NamedAddend → List Token
-addend_tokens a = sign_token a.minus ∷ term_tokens a.term
+abbrev pub fits_term : NamedTerm → Bool
+fits_term t = fits_factor t.first && list_all fits_factor t.rest
 
--- term {+ or - term}
-abbrev pub sum_tokens : NamedSum → List Token
-sum_tokens s = term_tokens s.first ++ flat_map addend_tokens s.rest
+abbrev pub fits_sum : NamedSum → Bool
+fits_sum s = fits_term s.first && list_all (λ a. fits_term a.term) s.rest
 
--- name = sum | print *, name {, name}
-abbrev pub action_tokens : NamedAction → List Token
-action_tokens (action.Assign target value) = token.Word target ∷ token.Equals ∷ sum_tokens value
-action_tokens (action.Print first rest) =
-    token.Word (codes "print") ∷ token.Star ∷ token.Comma ∷ token.Word first ∷ each_after token.Comma (λ name. token.Word name ∷ []) rest
+abbrev pub fits_action : NamedAction → Bool
+fits_action (action.Assign target value) = fits_sum value
+fits_action (action.Print first rest) = true
 
-abbrev pub end_tokens : List Token
-end_tokens = token.Word (codes "end") ∷ []
-
--- the tokens of one statement
-abbrev pub form_tokens : Form → List Token
-form_tokens (form.Program name) = program_tokens name
-form_tokens (form.Declare d) = declaration_tokens d
-form_tokens (form.Act a) = action_tokens a
-form_tokens form.End = end_tokens
-
--- f of what stands on a line, on that line
-abbrev pub on_line : {A B : Type 0} → (A → B) → Lined A → Lined B
-on_line f x = record { line = x.line; it = f x.it }
-
--- the statements of a source, in order
-abbrev pub forms_of : Source → List (Lined Form)
-forms_of s = on_line form.Program s.opening ∷ (map (on_line form.Declare) s.declarations
-    ++ (map (on_line form.Act) s.actions ++ record { line = s.ending; it = form.End } ∷ []))
-
--- and their tokens
-abbrev pub spelling : Source → List (Lined (List Token))
-spelling s = map (on_line form_tokens) (forms_of s)
+-- the statement is printed from this action, whose numbers fit
+pub record IsStated (x : Statement) (a : NamedAction) : Type 0 where
+  pub line : Line
+  pub tree : statement.Action line (action_tree a) ≡ x
+  pub fits : fits_action a ≡ true

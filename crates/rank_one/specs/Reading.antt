@@ -1,103 +1,132 @@
--- What a text reads as, and which rules it breaks.
-use Rattle.std.specs.Prelude.{◌≡◌, ℕ, List, [], ◌∷◌, map, length, nat_le, IsTrue, ◌^◌, ◌≤◌, ◌<◌, unwrap_or, ◌⊎◌, Contains}
-use Rattle.std.specs.List.{list_all}
-use Rattle.std.specs.Str.{str_to_ascii_lowercase}
+-- Which nested forms are of the first form, which unit they are, and the rules that others break.
+use Rattle.std.specs.Prelude.{◌≡◌, ℕ, ◌<◌, ◌^◌, length, Bool, true, false, List, [], ◌∷◌, ◌++◌, map, fold, if◌then◌else◌, Option, Some, None, is_some, unwrap_or, Result, Ok, Err}
+use Rattle.std.specs.List.{flat_map}
+use Rattle.a95_base.specs.Lists.{Every, Member}
+use Rattle.a95_base.specs.Breaks.{IsLeast}
+use Rattle.a95_base.specs.Limits.{most_elements}
 use Rattle.a95_base.specs.Rules.{not_yet, undeclared}
-use Rattle.rank_one.specs.declared.unit.Unit.{Unit}
-use Rattle.rank_one.specs.declared.unit.Statement.{Statement}
-use Rattle.rank_one.specs.declared.unit.Action.{Action}
-use Rattle.rank_one.specs.declared.unit.Action.TheVariants as unit
-use Rattle.rank_one.specs.declared.unit.Sum.{Sum}
-use Rattle.rank_one.specs.declared.unit.Addend.{Addend}
-use Rattle.rank_one.specs.declared.unit.Term.{Term}
-use Rattle.rank_one.specs.declared.unit.Factor.{Factor}
-use Rattle.rank_one.specs.declared.unit.Factor.TheVariants as placed
+use Rattle.a95_base.specs.declared.breaks.Break.{Break}
+use Rattle.a95_base.specs.declared.source.Line.{Line}
+use Rattle.a95_base.specs.declared.source.PhaseError.{PhaseError}
+use Rattle.a95_base.specs.declared.source.PhaseError.TheVariants.{Memory, Broken}
+use Rattle.f95_tree.specs.Forms.{Word}
+use Rattle.f95_tree.specs.declared.declaration.Declaration.{Declaration}
+use Rattle.f95_tree.specs.declared.source.Module.{Module}
+use Rattle.f95_tree.specs.declared.source.Source.{Source}
+use Rattle.f95_tree.specs.declared.source.Statement.{Statement}
+use Rattle.f95_tree.specs.declared.source.Subprogram.{Subprogram}
+use Rattle.rank_one.specs.declared.unit.Unit as unit
+use Rattle.rank_one.specs.declared.unit.Statement as typed
 use Rattle.rank_one.specs.declared.form.NamedAction.{NamedAction}
-use Rattle.rank_one.specs.declared.form.NamedAction.TheVariants as action
-use Rattle.rank_one.specs.declared.form.NamedSum.{NamedSum}
-use Rattle.rank_one.specs.declared.form.NamedAddend.{NamedAddend}
-use Rattle.rank_one.specs.declared.form.NamedTerm.{NamedTerm}
-use Rattle.rank_one.specs.declared.form.NamedFactor.{NamedFactor}
-use Rattle.rank_one.specs.declared.form.NamedFactor.TheVariants as factor
+use Rattle.rank_one.specs.declared.form.NamedArray.{NamedArray}
 use Rattle.rank_one.specs.declared.symbols.Symbol.{Symbol}
-use Rattle.rank_one.specs.Tokens.{Lined, lines_of, statements_of}
-use Rattle.rank_one.specs.Grammar.{Source, spelling}
-use Rattle.rank_one.specs.Conditions.{Keeps, symbols_of, place_of, undeclared_lines}
+use Rattle.rank_one.specs.Conditions.{place_of, is_conforming, is_declared}
+use Rattle.rank_one.specs.Forms.{arrays_in, named_in, statement_line}
+use Rattle.rank_one.specs.Placing.{placed_action}
 
--- upper and lower case are one
-abbrev pub folded : List ℕ → List ℕ
-folded bytes = str_to_ascii_lowercase bytes
+-- What is declared.
 
--- the bytes are those of this source, and it breaks no condition
-pub record IsSource (bytes : List ℕ) (source : Source) : Type 0 where
-  pub size : length bytes ≤ 2 ^ 20
-  pub lines : IsTrue (list_all (λ line. nat_le (length line) 132) (lines_of (folded bytes)))
-  pub spelled : statements_of (folded bytes) ≡ spelling source
-  pub keeps : Keeps source
+abbrev pub symbol_on : ℕ → NamedArray → Symbol
+symbol_on line a = record { name = a.name; array = record { line = line; extent = a.extent } }
 
--- the place of a declared name
-abbrev pub placed_name : List Symbol → List ℕ → ℕ
-placed_name symbols name = unwrap_or (place_of symbols name) 0
+-- the arrays of a declaration of the first form
+abbrev pub symbols_in : Line × Declaration → List Symbol
+symbols_in d = map (symbol_on d.0.0) (unwrap_or (arrays_in d.1) [])
 
-abbrev pub placed_factor : List Symbol → NamedFactor → Factor
-placed_factor symbols (factor.Number n) = placed.Number n
-placed_factor symbols (factor.Name name) = placed.Array (placed_name symbols name)
+abbrev pub declared_in : List (Line × Declaration) → List Symbol
+declared_in declarations = flat_map symbols_in declarations
 
-abbrev pub placed_term : List Symbol → NamedTerm → Term
-placed_term symbols t = record { first = placed_factor symbols t.first; rest = map (placed_factor symbols) t.rest }
+-- a name that is declared again names the first array
+abbrev pub with_symbol : List Symbol → Symbol → List Symbol
+with_symbol symbols x = if is_some (place_of symbols x.name) then symbols else symbols ++ x ∷ []
 
-abbrev pub placed_addend : List Symbol → NamedAddend → Addend
-placed_addend symbols a = record { minus = a.minus; term = placed_term symbols a.term }
+abbrev pub symbols_of : Source → List Symbol
+symbols_of s = fold with_symbol [] (declared_in s.main.section.declarations)
 
-abbrev pub placed_sum : List Symbol → NamedSum → Sum
-placed_sum symbols s = record { first = placed_term symbols s.first; rest = map (placed_addend symbols) s.rest }
+-- Which unit a source is.
 
-abbrev pub placed_action : List Symbol → NamedAction → Action
-placed_action symbols (action.Assign target value) = unit.Assign (placed_name symbols target) (placed_sum symbols value)
-placed_action symbols (action.Print first rest) = unit.Print (map (placed_name symbols) (first ∷ rest))
+abbrev pub acted : List Symbol → ℕ → Option NamedAction → List typed.Statement
+acted symbols line None = []
+acted symbols line (Some a) = record { line = line; action = placed_action symbols a } ∷ []
 
--- a statement with places for its names
-abbrev pub placed_statement : List Symbol → Lined NamedAction → Statement
-placed_statement symbols a = record { line = a.line; action = placed_action symbols a.it }
+-- what a statement of the first form does
+abbrev pub statement_in : List Symbol → Statement → List typed.Statement
+statement_in symbols x = acted symbols (statement_line x) (named_in x)
 
-abbrev pub unit_of : Source → Unit
-unit_of source = record {
-  arrays = map (λ x. x.array) (symbols_of source);
-  statements = map (placed_statement (symbols_of source)) source.actions;
+abbrev pub unit_of : Source → unit.Unit
+unit_of s = record {
+  arrays = map (λ x. x.array) (symbols_of s);
+  statements = flat_map (statement_in (symbols_of s)) s.main.body;
 }
 
--- the bytes read as this unit
-pub record Reads (bytes : List ℕ) (unit : Unit) : Type 0 where
-  pub source : Source
-  pub is_source : IsSource bytes source
-  pub declared : undeclared_lines source ≡ []
-  pub unit_is : unit ≡ unit_of source
+-- What isn't built yet, at the first line of each statement that has it. What stands inside a module, a block or a procedure
+-- stands behind the first line of that.
+pub data IsNotYet (s : Source) : ℕ → ℕ → Type 0 where
+  has_module : (m : Module) → Member s.modules m → IsNotYet s m.line.0 not_yet
+  has_use : (u : Line × Word × Option (List Word)) → Member s.main.section.uses u → IsNotYet s u.0.0 not_yet
+  has_implicit : (l : Line) → s.main.section.implicit ≡ Some l → IsNotYet s l.0 not_yet
+  -- a declaration of another form
+  other_declaration : (d : Line × Declaration) → Member s.main.section.declarations d → arrays_in d.1 ≡ None → IsNotYet s d.0.0 not_yet
+  large_extent : (x : Symbol) → Member (declared_in s.main.section.declarations) x → most_elements < x.array.extent
+      → IsNotYet s x.array.line not_yet
+  -- an array whose name was declared before
+  declared_twice : (before : List Symbol) (x : Symbol) (behind : List Symbol) → declared_in s.main.section.declarations ≡ before ++ x ∷ behind
+      → is_some (place_of before x.name) ≡ true → IsNotYet s x.array.line not_yet
+  -- a statement or a block of another form
+  other_statement : (x : Statement) → Member s.main.body x → named_in x ≡ None → IsNotYet s (statement_line x) not_yet
+  -- declared names of an assignment with unequal extents
+  unequal_extents : (x : Statement) → Member s.main.body x → (a : NamedAction) → named_in x ≡ Some a → is_conforming (symbols_of s) a ≡ false
+      → IsNotYet s (statement_line x) not_yet
+  has_procedures : (c : Line × List Subprogram) → s.main.procedures ≡ Some c → IsNotYet s c.0.0 not_yet
 
--- phase 3, always on line 1: the bytes are no source
-pub record IsNoSource (bytes : List ℕ) (phase line rule : ℕ) : Type 0 where
-  pub phase_is : phase ≡ 3
-  pub line_is : line ≡ 1
-  pub rule_is : rule ≡ not_yet
-  pub none : (source : Source) → IsSource bytes source → ⊥
+-- a statement has a name that isn't declared
+pub data IsUndeclared (s : Source) : ℕ → ℕ → Type 0 where
+  unknown_name : (x : Statement) → Member s.main.body x → (a : NamedAction) → named_in x ≡ Some a → is_declared (symbols_of s) a ≡ false
+      → IsUndeclared s (statement_line x) undeclared
 
--- phase 4: a statement on this line has a name that isn't declared
-pub record HasUndeclared (bytes : List ℕ) (phase line rule : ℕ) : Type 0 where
-  pub phase_is : phase ≡ 4
-  pub rule_is : rule ≡ undeclared
-  pub source : Source
-  pub is_source : IsSource bytes source
-  pub at : Contains (undeclared_lines source) line
+-- all that the source has is built
+abbrev pub IsBuilt : Source → Type 0
+IsBuilt s = (line rule : ℕ) → IsNotYet s line rule → ⊥
 
--- the bytes break this rule of this phase on this line
-abbrev pub IsBroken : List ℕ → ℕ → ℕ → ℕ → Type 0
-IsBroken bytes phase line rule = IsNoSource bytes phase line rule ⊎ HasUndeclared bytes phase line rule
+-- all its names are declared
+abbrev pub AreDeclared : Source → Type 0
+AreDeclared s = (line rule : ℕ) → IsUndeclared s line rule → ⊥
 
--- of two broken rules the one of the earlier phase is less, then that on the earlier line, then the lesser number
-abbrev pub IsUpTo : ℕ → ℕ → ℕ → ℕ → ℕ → ℕ → Type 0
-IsUpTo phase line rule phase' line' rule' =
-    (phase < phase') ⊎ ((phase ≡ phase') × ((line < line') ⊎ ((line ≡ line') × (rule ≤ rule'))))
+-- the source is of the first form, and is this unit
+pub record IsUnit (s : Source) (u : unit.Unit) : Type 0 where
+  pub built : IsBuilt s
+  pub declared : AreDeclared s
+  pub is : u ≡ unit_of s
 
--- what is broken, and nothing less is
-pub record IsLeastBroken (bytes : List ℕ) (phase line rule : ℕ) : Type 0 where
-  pub broken : IsBroken bytes phase line rule
-  pub least : (phase' line' rule' : ℕ) → IsBroken bytes phase' line' rule' → IsUpTo phase line rule phase' line' rule'
+-- the line and the rule that are told
+abbrev pub refusal_of : Break → PhaseError
+refusal_of b = Broken (record { 0 = b.line }) (record { 0 = b.rule })
+
+-- what is told of what isn't built, of names that aren't declared, and of the unit
+abbrev pub told : Option Break → Option Break → unit.Unit → Result (Result unit.Unit PhaseError) PhaseError
+told (Some b) names u = Err (refusal_of b)
+told None (Some b) u = Ok (Err (refusal_of b))
+told None None u = Ok (Ok u)
+
+-- what a refusal says of what isn't built yet
+abbrev pub RefusesForm : Source → PhaseError → Type 0
+RefusesForm s Memory = Unit {0}
+RefusesForm s (Broken line rule) = IsLeast (IsNotYet s) line.0 rule.0
+
+-- what a refusal says of names, where all is built
+abbrev pub RefusesNames : Source → PhaseError → Type 0
+RefusesNames s Memory = Unit {0}
+RefusesNames s (Broken line rule) = IsBuilt s × IsLeast (IsUndeclared s) line.0 rule.0
+
+-- its line is a number of the machine
+abbrev pub LineFits : Line × Declaration → Type 0
+LineFits d = d.0.0 < 2 ^ 32
+
+abbrev pub StatementFits : Statement → Type 0
+StatementFits x = statement_line x < 2 ^ 32
+
+-- its lines, and the number of its arrays, are numbers of the machine
+pub record Fits (s : Source) : Type 0 where
+  pub count : length (symbols_of s) < 2 ^ 32
+  pub declarations : Every LineFits s.main.section.declarations
+  pub statements : Every StatementFits s.main.body

@@ -1,14 +1,14 @@
-//! Why a part of a source was not read.
+//! Why a statement isn't read.
 ghost use Rattle.std.specs.Prelude.{◌≡◌};
 ghost use Rattle.rank_one.specs.declared.failure.Failure.TheVariants.{Memory};
 
 use std::alloc::{AllocError, AllocFailed};
 
-/// Why there is no form, or no unit.
-#[derive(Clone, Copy, Debug, PartialEq, Eq)]
+/// Why a statement isn't read.
+#[derive(Clone, Copy)]
 pub enum Failure {
-    /// The text is no source, or breaks a condition.
-    NoSource,
+    /// It isn't of the first form.
+    OtherForm,
     /// An allocation was refused.
     Memory,
 }

@@ -1,69 +1,51 @@
-//! The forms of statements, by names.
-use crate::token::Word;
+//! The statements of the first form, by names.
+use crate::name::Name;
 use sqlite_items::Items;
 
 /// `name(extent)`
-#[derive(Debug, Drop)]
-pub struct Entity<'a> {
-    pub name: Word<'a>,
+#[derive(Drop)]
+pub struct NamedArray<'a> {
+    pub name: Name<'a>,
     pub extent: u32,
 }
 
-/// `integer :: entity {, entity}`
-#[derive(Debug, Drop)]
-pub struct Declaration<'a> {
-    pub first: Entity<'a>,
-    pub rest: Items<Entity<'a>>,
-}
-
 /// What a statement between the declarations and `end` does, by names.
-#[derive(Debug, Drop)]
+#[derive(Drop)]
 pub enum NamedAction<'a> {
     /// `target = value`
     Assign {
-        target: Word<'a>,
+        target: Name<'a>,
         value: NamedSum<'a>,
     },
     /// `print *, name {, name}`
     Print {
-        first: Word<'a>,
-        rest: Items<Word<'a>>,
+        first: Name<'a>,
+        rest: Items<Name<'a>>,
     },
 }
 
 /// `term {+ or - term}`
-#[derive(Debug, Drop)]
+#[derive(Drop)]
 pub struct NamedSum<'a> {
     pub first: NamedTerm<'a>,
     pub rest: Items<NamedAddend<'a>>,
 }
 
-#[derive(Debug, Drop)]
+#[derive(Drop)]
 pub struct NamedAddend<'a> {
     pub minus: bool,
     pub term: NamedTerm<'a>,
 }
 
 /// `factor {* factor}`
-#[derive(Debug, Drop)]
+#[derive(Drop)]
 pub struct NamedTerm<'a> {
     pub first: NamedFactor<'a>,
     pub rest: Items<NamedFactor<'a>>,
 }
 
-#[derive(Debug, Drop)]
+#[derive(Drop)]
 pub enum NamedFactor<'a> {
     Number(u32),
-    Name(Word<'a>),
-}
-
-/// What one statement is.
-#[derive(Debug, Drop)]
-pub enum Form<'a> {
-    /// `program name`
-    Program(Word<'a>),
-    Declare(Declaration<'a>),
-    Act(NamedAction<'a>),
-    /// `end`
-    End,
+    Name(Name<'a>),
 }

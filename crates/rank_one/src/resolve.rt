@@ -1,18 +1,18 @@
 //! Names of arrays become their places.
 ghost use Rattle.std.specs.Prelude.{◌≡◌, ◌∷◌, [], map, IfOk};
 ghost use Rattle.rank_one.specs.Conditions.{extent_of, names_in_factor, names_in_term, names_in_sum, names_in, is_conforming, is_declared};
-ghost use Rattle.rank_one.specs.Reading.{placed_name, placed_factor, placed_term, placed_addend, placed_sum, placed_action};
+ghost use Rattle.rank_one.specs.Placing.{placed_name, placed_factor, placed_term, placed_addend, placed_sum, placed_action};
 ghost use Rattle.rank_one.specs.Resolving.{unseen, seen_with, see_all};
 
 use crate::form::{NamedAction, NamedAddend, NamedFactor, NamedSum, NamedTerm};
+use crate::name::Name;
 use crate::symbols::Symbols;
-use crate::token::Word;
 use crate::unit::{Action, Addend, Factor, Sum, Term};
 use sqlite_items::Items;
 use std::alloc::{AllocError, Global};
 
 /// What the names of a statement have shown so far.
-#[derive(Clone, Copy, Debug)]
+#[derive(Clone, Copy)]
 pub struct Seen {
     /// That of the first declared name.
     pub extent: Option<u32>,
@@ -49,7 +49,7 @@ impl Seen {
 }
 
 /// A statement by places, and what its names have shown.
-#[derive(Debug, Drop)]
+#[derive(Drop)]
 pub struct Resolved {
     pub action: Action,
     /// Its declared names have equal extents, if it is an assignment.
@@ -77,7 +77,7 @@ pub fn action(
 fn assignment(
     alloc: Global,
     symbols: &Symbols<'_>,
-    target: &Word<'_>,
+    target: &Name<'_>,
     value: &NamedSum<'_>,
 ) -> Result<Resolved, AllocError>
     ensures action { IfOk result (λ r. r.action ≡ placed_action symbols.now (NamedAction.Assign target.now value.now)) }
@@ -97,8 +97,8 @@ fn assignment(
 fn print(
     alloc: Global,
     symbols: &Symbols<'_>,
-    first: &Word<'_>,
-    rest: &[Word<'_>],
+    first: &Name<'_>,
+    rest: &[Name<'_>],
 ) -> Result<Resolved, AllocError>
     ensures action { IfOk result (λ r. r.action ≡ placed_action symbols.now (NamedAction.Print first.now rest.now)) }
     ensures conforming { IfOk result (λ r. r.conforming ≡ is_conforming symbols.now (NamedAction.Print first.now rest.now)) }
@@ -165,7 +165,7 @@ fn factor(symbols: &Symbols<'_>, seen: &mut Seen, value: &NamedFactor<'_>) -> Fa
     }
 }
 
-fn name(symbols: &Symbols<'_>, seen: &mut Seen, name: &Word<'_>) -> u32
+fn name(symbols: &Symbols<'_>, seen: &mut Seen, name: &Name<'_>) -> u32
     ensures place { result ≡ placed_name symbols.now name.now }
     ensures seen { seen.new ≡ seen_with seen.old (extent_of symbols.now name.now) }
 {

@@ -3,8 +3,7 @@ ghost use Rattle.std.specs.Prelude.{◌≡◌, ◌∷◌, ◌++◌, [], ◌<◌,
 ghost use Rattle.std.specs.Option.{option_map};
 ghost use Rattle.rank_one.specs.Conditions.{place_of, extent_of};
 
-use crate::failure::Failure;
-use crate::token::Word;
+use crate::name::Name;
 use crate::unit::Array;
 use sqlite_items::Items;
 use std::alloc::{AllocError, Global};
@@ -12,9 +11,9 @@ use std::collections::BTreeMap;
 use std::marker::Model;
 
 /// A declared array and its name.
-#[derive(Debug, Drop)]
+#[derive(Drop)]
 pub struct Symbol<'a> {
-    pub name: Word<'a>,
+    pub name: Name<'a>,
     pub array: Array,
 }
 
@@ -26,7 +25,7 @@ pub struct Symbols<'a> {
 }
 
 impl<'a> Model for Symbols<'a> {
-    ghost use Rattle.std.specs.Prelude.{List, ℕ, ◌≡◌};
+    ghost use Rattle.std.specs.Prelude.{List, ℕ, ◌≡◌, length, ◌<◌, ◌^◌};
     ghost use Rattle.std.specs.BTreeMap.{get_by};
     ghost use Rattle.std.specs.Ordering.{nat_cmp};
     ghost use Rattle.std.specs.Cmp.Lexicographic.{slice_cmp};
@@ -37,7 +36,9 @@ impl<'a> Model for Symbols<'a> {
 
     ghost view = { λ s. s.symbols.items };
 
-    ghost invariant = { λ s. (name : List ℕ) → get_by (λ k. slice_cmp nat_cmp name k.now) s.places ≡ place_of s.symbols.items name };
+    ghost invariant = { λ s.
+        ((name : List ℕ) → get_by (λ k. slice_cmp nat_cmp name k.now) s.places ≡ place_of s.symbols.items name)
+        × (length s.symbols.items < 2 ^ 32) };
 }
 
 impl<'a> Symbols<'a> {
@@ -90,7 +91,8 @@ impl<'a> Symbols<'a> {
 
     /// The arrays without their names.
     pub fn arrays(&self, alloc: Global) -> Result<Items<Array>, AllocError>
-        ensures { IfOk result (λ arrays. arrays ≡ map (λ s. s.array) self.now) }
+        ensures arrays { IfOk result (λ arrays. arrays ≡ map (λ s. s.array) self.now) }
+        ensures count { length self.now < 2 ^ 32 }
     {
         Ok(Items::from_vec(arrays_of(alloc, &self.symbols)?))
     }

@@ -2,7 +2,7 @@ use Rattle.std.proofs.Common.{◌≡◌, ◌<◌, ◌∷◌, ◌++◌, ◌∙◌
 use Rattle.std.proofs.lemmas.List.{take_all}
 use Rattle.rank_one.specs.declared.resolve.Seen.{Seen}
 use Rattle.rank_one.specs.Conditions.{extent_of}
-use Rattle.rank_one.specs.Reading.{placed_name}
+use Rattle.rank_one.specs.Placing.{placed_name}
 use Rattle.rank_one.specs.Resolving.{unseen, seen_with, see_all}
 use Rattle.rank_one.proofs.SeenLaws.{map_one_more, see_one_more, declared_is}
 use Rattle.rank_one.proofs.resolve.print.Goals as goal

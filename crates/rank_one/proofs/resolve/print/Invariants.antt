@@ -1,5 +1,5 @@
 use Rattle.std.proofs.Common.{◌≡◌, ◌∷◌, map, take}
-use Rattle.rank_one.specs.Reading.{placed_name}
+use Rattle.rank_one.specs.Placing.{placed_name}
 use Rattle.rank_one.specs.Resolving.{see_all}
 use Rattle.rank_one.proofs.resolve.print.Given as goal
 

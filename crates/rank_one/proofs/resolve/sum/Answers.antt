@@ -4,7 +4,7 @@ use Rattle.std.proofs.lemmas.List.{take_all}
 use Rattle.rank_one.specs.declared.form.NamedAddend.{NamedAddend}
 use Rattle.rank_one.specs.declared.resolve.Seen.{Seen}
 use Rattle.rank_one.specs.Conditions.{names_in_term}
-use Rattle.rank_one.specs.Reading.{placed_addend}
+use Rattle.rank_one.specs.Placing.{placed_addend}
 use Rattle.rank_one.specs.Resolving.{see_all}
 use Rattle.rank_one.proofs.SeenLaws.{map_one_more, see_more, see_append}
 use Rattle.rank_one.proofs.resolve.sum.Goals as goal

@@ -1,7 +1,7 @@
 use Rattle.std.proofs.Common.{◌≡◌, map, take}
 use Rattle.std.specs.List.{flat_map}
 use Rattle.rank_one.specs.Conditions.{names_in_term}
-use Rattle.rank_one.specs.Reading.{placed_addend}
+use Rattle.rank_one.specs.Placing.{placed_addend}
 use Rattle.rank_one.specs.Resolving.{see_all}
 use Rattle.rank_one.proofs.resolve.sum.Given as goal
 

@@ -1,6 +1,6 @@
 use Rattle.std.proofs.Common.{◌≡◌, ◌<◌, ◌∷◌, length, arith}
 use Rattle.rank_one.specs.Conditions.{names_in_factor}
-use Rattle.rank_one.specs.Reading.{placed_factor}
+use Rattle.rank_one.specs.Placing.{placed_factor}
 use Rattle.rank_one.proofs.SeenLaws.{map_one_more, see_more}
 use Rattle.rank_one.proofs.resolve.term.Goals as goal
 

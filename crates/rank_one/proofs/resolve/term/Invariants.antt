@@ -1,7 +1,7 @@
 use Rattle.std.proofs.Common.{◌≡◌, map, take}
 use Rattle.std.specs.List.{flat_map}
 use Rattle.rank_one.specs.Conditions.{names_in_factor}
-use Rattle.rank_one.specs.Reading.{placed_factor}
+use Rattle.rank_one.specs.Placing.{placed_factor}
 use Rattle.rank_one.specs.Resolving.{see_all}
 use Rattle.rank_one.proofs.resolve.term.Given as goal
 
