@@ -1,0 +1,4 @@
+pub mod Judging
+pub mod Phases
+pub mod Reading
+pub mod Sizes
