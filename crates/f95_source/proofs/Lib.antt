@@ -1,0 +1,5 @@
+pub mod FitLaws
+pub mod LeastLaws
+pub mod SizeLaws
+pub mod UnitLaws
+pub mod WholeLaws
