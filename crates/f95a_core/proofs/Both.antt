@@ -43,7 +43,7 @@ statements_bound decls small (s ∷ ss) =
     omega arith
 
 -- the turns of a program are within the bound, whatever the turns of its source
-within_bound : (unit : Unit) → IsTyped unit → (bytes turns : ℕ) → size_of unit ≤ bytes → statements_cost unit.arrays unit.statements ≤ turn_bound bytes turns
+within_bound : (unit : Unit) → IsTyped unit → (bytes turns : ℕ) → size_of unit ≤ 2 * bytes → statements_cost unit.arrays unit.statements ≤ turn_bound bytes turns
 within_bound unit typed bytes turns size =
     let cost = statements_bound unit.arrays typed.extents unit.statements in
     let square : (bytes + 1) * 1 ≤ (bytes + 1) * (bytes + 1) = mul-le-mul_left (bytes + 1) (omega arith) in
@@ -52,7 +52,7 @@ within_bound unit typed bytes turns size =
 
 -- ---- both directions
 
-pub follows_it : (unit : Unit) → IsTyped unit → (bytes : ℕ) → size_of unit ≤ bytes → Follows (source_run unit) (turn_bound bytes) (program_of unit)
+pub follows_it : (unit : Unit) → IsTyped unit → (bytes : ℕ) → size_of unit ≤ 2 * bytes → Follows (source_run unit) (turn_bound bytes) (program_of unit)
 follows_it unit typed bytes size =
     let cost = statements_cost unit.arrays unit.statements in
     follows_both_ways (source_run unit) (λ input turns. cost) (turn_bound bytes) (program_of unit)

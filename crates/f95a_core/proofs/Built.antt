@@ -3,8 +3,9 @@ use Rattle.std.proofs.Common.{◌≡◌, ◌∙◌, ap, refl, sym, subst, ℕ, �
 use Rattle.std.specs.Io.KnownBytes.{Appends}
 use Rattle.io_edge.specs.Known.{AppendsPrefix}
 use Rattle.rank_one.specs.declared.unit.Unit.{Unit}
-use Rattle.rank_one.specs.Reading.{Reads}
-use Rattle.rank_one.specs.Typed.{IsTyped, size_of}
+use Rattle.rank_one.specs.Typed.{IsTyped}
+use Rattle.f95_source.specs.Sizes.{IsWithin}
+use Rattle.f95_source.specs.Source.{Reads}
 use Rattle.loop_tree.specs.declared.tree.Function.{Function}
 use Rattle.loop_tree.specs.Text.{text_of_program}
 use Rattle.loop_writer.specs.declared.pieces.Piece.{Piece}
@@ -20,7 +21,7 @@ use Rattle.f95a_core.proofs.Lowering.{pieces_are}
 pub record Read (bytes : List ℕ) (unit : Unit) : Type 0 where
   pub reads : Reads bytes unit
   pub typed : IsTyped unit
-  pub size : size_of unit ≤ length bytes
+  pub size : IsWithin unit bytes
 
 pub compiles : (bytes : List ℕ) (unit : Unit) (left : List Piece) (program : List Function) → Read bytes unit → left ≡ pieces_of unit → program ≡ functions_of left → Compiles bytes program
 compiles bytes unit left program read e f =

@@ -9,7 +9,6 @@ pub mod Statements
 pub mod Whole
 pub mod Both
 pub mod Grammatical
-pub mod Digits
 pub mod Taking
 pub mod Joined
 pub mod Ends

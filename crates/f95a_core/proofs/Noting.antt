@@ -1,8 +1,8 @@
 -- What a command came to, with its note: the answer is that, or the failure of the note.
 use Rattle.std.proofs.Common.{◌≡◌, ◌⊎◌, inl, inr, refl, sym, subst, ◌∙◌, ℕ, List, Option, Some}
 use Rattle.std.specs.Prelude.{IfSome}
-use Rattle.rank_one.specs.Reading.{Reads, IsBroken}
-use Rattle.rank_one.specs.Laws.{BreaksNothing}
+use Rattle.rank_one.specs.declared.unit.Unit.{Unit}
+use Rattle.f95_source.specs.Source.{Reads, IsBroken}
 use Rattle.f95a_core.specs.declared.status.Status.{Status}
 use Rattle.f95a_core.specs.declared.status.Status.TheVariants as status
 use Rattle.f95a_core.specs.Outside.{Files, Stream, IsTold}
@@ -41,6 +41,10 @@ builds_unbroken name files files' out out' notes notes' same status.ReadFault re
 builds_unbroken name files files' out out' notes notes' same status.WriteFault result noted h bytes e unbroken = inr (failure_stays status.WriteFault result notes notes' noted (inr (inl refl)))
 builds_unbroken name files files' out out' notes notes' same status.Memory result noted h bytes e unbroken = inr (failure_stays status.Memory result notes notes' noted (inr (inr refl)))
 builds_unbroken name files files' out out' notes notes' same other result noted h bytes e unbroken = absurd h
+
+-- bytes that read as a unit break no rule
+abbrev pub BreaksNothing : Type 0
+BreaksNothing = (bytes : List ℕ) (unit : Unit) (phase line rule : ℕ) → Reads bytes unit → IsBroken bytes phase line rule → ⊥
 
 -- where the source was built, it reads as a unit, and so breaks nothing
 not_built : BreaksNothing → (name : List ℕ) (files files' : Files) (out out' : Stream) (same : Type 0) (came : Status) → came ≡ status.Done → BuildComesTo name files files' out out' same came →

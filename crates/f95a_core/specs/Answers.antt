@@ -36,6 +36,10 @@ pub record Answers (result : Status) (before after : Stream) (P : Status → Typ
   pub noted : Noted came result before after
   pub holds : P came
 
+-- what words come to that are no command; want of memory is free
+abbrev pub IsUsage : Status → Type 0
+IsUsage came = (came ≡ status.Usage) ⊎ (came ≡ status.Memory)
+
 -- a device failed, or memory did
 abbrev pub IsFailure : Status → Type 0
 IsFailure result = (result ≡ status.ReadFault) ⊎ ((result ≡ status.WriteFault) ⊎ (result ≡ status.Memory))

@@ -1,7 +1,5 @@
 pub mod Status
 pub mod Outside
-pub mod Commands
-pub mod Seen
 pub mod Source
 pub mod Answers
 pub mod Intake

@@ -6,7 +6,7 @@ use Rattle.loop_text.specs.Refused.{IsRefusedLine}
 use Rattle.f95a_core.specs.Source.{IsLeastBroken}
 use Rattle.f95a_core.specs.declared.status.Status.{Status}
 use Rattle.f95a_core.specs.declared.status.Status.TheVariants as status
-use Rattle.f95a_core.specs.Commands.{default_turns}
+use Rattle.command_words.specs.Commands.{default_turns}
 use Rattle.f95a_core.specs.Intake.{input_limit}
 use Rattle.f95a_core.specs.Building.{Builds}
 use Rattle.f95a_core.specs.Running.{job, Executes}

@@ -2,9 +2,9 @@
 ghost use Rattle.std.specs.Prelude.{◌≡◌, ◌<◌, ◌^◌, List, length, map, string_bytes, IfOk};
 ghost use Rattle.io_edge.specs.Causes.{Rose};
 ghost use Rattle.f95a_core.specs.Status.{note};
-ghost use Rattle.f95a_core.specs.Commands.{command_of, OnNoCommand, OnBuild, OnRun, UnlessRun};
+ghost use Rattle.command_words.specs.Commands.{command_of, OnNoCommand, OnBuild, OnRun, UnlessRun};
 ghost use Rattle.f95a_core.specs.Outside.{files, stream};
-ghost use Rattle.f95a_core.specs.Answers.{Answers, Noted};
+ghost use Rattle.f95a_core.specs.Answers.{Answers, Noted, IsUsage};
 ghost use Rattle.f95a_core.specs.Building.{BuildComesTo, BuildsUnbroken, BuildsNoOther};
 ghost use Rattle.f95a_core.specs.Running.{job, RunComesTo, RunsText};
 
@@ -12,7 +12,7 @@ use crate::building::build;
 use crate::running::run;
 use crate::source::breaks_nothing;
 use crate::status::Status;
-use crate::words::{Command, command_of};
+use command_words::{Command, command_of};
 use io_edge::{PutFault, Shelf, Sink, Source};
 use loop_text::one_program;
 use loop_tree::one_outcome;
@@ -89,10 +89,11 @@ pub fn f95a<H: Shelf, S: Source, K: Sink, N: Sink>(
     out: &mut K,
     notes: &mut N,
 ) -> Status
-    // Words that are no command are answered with Usage, and nothing is touched but the notes.
+    // Words that are no command are answered with Usage, unless memory is wanting to read them, and nothing is touched but
+    // the notes.
     ensures usage { OnNoCommand (command_of (map string_bytes words.now)) (Answers result
         (stream (N.written notes.old) (N.faults notes.old)) (stream (N.written notes.new) (N.faults notes.new))
-        (λ came. came ≡ Status.Usage)) }
+        IsUsage) }
     ensures untouched { OnNoCommand (command_of (map string_bytes words.now))
         ((shelf.new ≡ shelf.old) × (input.new ≡ input.old) × (out.new ≡ out.old)) }
     ensures build { OnBuild (command_of (map string_bytes words.now)) (λ name. Answers result
@@ -123,7 +124,10 @@ pub fn f95a<H: Shelf, S: Source, K: Sink, N: Sink>(
     breaks_nothing();
     one_program();
     one_outcome();
-    match command_of(words) {
+    let Ok(command) = command_of(alloc, words) else {
+        return noted(alloc, Status::Memory, notes);
+    };
+    match command {
         Some(Command::BuildFile(name)) => noted(alloc, build(alloc, name, shelf, out), notes),
         Some(Command::RunFile(name, turns)) => {
             noted(alloc, run(alloc, name, turns, shelf, input, out), notes)

@@ -13,7 +13,6 @@ mod round_trip;
 mod running;
 mod source;
 mod status;
-mod words;
 
 pub use command::f95a;
 pub use compiling::{CompileRefusal, compile};

@@ -1,10 +1,12 @@
 //! A caller of the top call: builds a source and runs what was built, over objects in memory.
-ghost use Rattle.std.specs.Prelude.{◌≡◌, [], ◌∷◌, codes, map, string_bytes, IfOk};
+ghost use Rattle.std.specs.Prelude.{◌≡◌, [], ◌∷◌, Some, codes, map, string_bytes, IfOk};
+ghost use Rattle.command_words.specs.Commands.{BuildFile, RunFile, command_of, default_turns};
 ghost use Rattle.f95a_core.specs.RoundTrip.{Built, Ran, EndsAs};
 
 use crate::command::f95a;
 use crate::law::headline;
 use crate::status::Status;
+use command_words::usual_words;
 use io_edge::{CleanShelf, CleanSink, CleanSource};
 use std::alloc::{AllocError, Global};
 
@@ -18,6 +20,22 @@ fn words(alloc: Global, command: &str) -> Result<Vec<String>, AllocError>
     Ok(words)
 }
 
+/// The words that build the one file.
+fn build_words(alloc: Global) -> Result<Vec<String>, AllocError>
+    ensures { IfOk result (λ words. command_of (map string_bytes words.items) ≡ Some (BuildFile (codes "file"))) }
+{
+    usual_words();
+    words(alloc, "build")
+}
+
+/// The words that run it.
+fn run_words(alloc: Global) -> Result<Vec<String>, AllocError>
+    ensures { IfOk result (λ words. command_of (map string_bytes words.items) ≡ Some (RunFile (codes "file") default_turns)) }
+{
+    usual_words();
+    words(alloc, "run")
+}
+
 /// Builds a source, whose text the sink then holds.
 fn build_in_memory(
     alloc: Global,
@@ -27,7 +45,7 @@ fn build_in_memory(
     requires { text.old ≡ [] }
     ensures { IfOk result (λ status. Built source.items status text.new) }
 {
-    let words = words(alloc, "build")?;
+    let words = build_words(alloc)?;
     let mut shelf = CleanShelf::new(source);
     let mut input = CleanSource::new(Vec::new(alloc));
     let mut notes = CleanSink::new(alloc);
@@ -51,7 +69,7 @@ fn run_in_memory(
     requires { output.old ≡ [] }
     ensures { IfOk result (λ status. Ran text.items input.items status output.new) }
 {
-    let words = words(alloc, "run")?;
+    let words = run_words(alloc)?;
     let mut shelf = CleanShelf::new(text);
     let mut input = CleanSource::new(input);
     let mut notes = CleanSink::new(alloc);

@@ -7,12 +7,18 @@ use loop_text::print;
 use std::alloc::{AllocError, Global};
 use std::test::Fail;
 
-const ACCEPTED: [&str; 5] = [
+const ACCEPTED: [&str; 11] = [
     "program p; integer :: a(3); a = 2; print *, a; end",
     "PROGRAM p\nInteger::a(3),B(3)\na=1+2*b-A*a\nprint*,A,b\n\tend\t\n;;\n",
     "program p\ninteger :: a(0)\ninteger :: z_9(16777216)\na = 007\nprint *, a, a\nend",
     "program a\ninteger :: a(1)\na = 2147483647 + 1\nend\n",
     "program p;end",
+    "end",
+    "program p\r\ninteger :: a(3)\r\nend\r\n",
+    "program p ! the sum\n! of nothing\nend program p",
+    "PROGRAM P\nINTEGER A(3)\nA = 1 + & ! one\n\n! and\n 2\nPRINT *, A\nEND PROGRAM p\n",
+    "program pro&\n&gram1\nint&\n&eger :: a(3)\na = 1&\n&2\nend program program1",
+    "integer :: p(3)\nprint *, p\nend program",
 ];
 
 /// Whether the source is built, with no note.
@@ -45,9 +51,10 @@ fn accepted_sources_are_built(rt: HostRuntime) -> Result<(), Fail> {
     Ok(())
 }
 
+/// The form, or something in it, isn't built yet.
 const FORM: &str = "f95a: refused: phase 3, line 1, rule P47\n";
 
-const REFUSED: [(&str, &str); 20] = [
+const REFUSED: [(&str, &str); 32] = [
     (
         "program p\nx = 1\nend\n",
         "f95a: refused: phase 4, line 2, rule P19\n",
@@ -56,30 +63,100 @@ const REFUSED: [(&str, &str); 20] = [
         "program p; integer :: a(2)\n\na = 1\nprint *, a, b; c = 1\nend",
         "f95a: refused: phase 4, line 4, rule P19\n",
     ),
-    ("", FORM),
-    ("program p", FORM),
-    ("program p; end; end", FORM),
-    ("programp; end", FORM),
-    ("program end; end", FORM),
-    ("program p; integer : : a(2); end", FORM),
-    ("program p; integer :: a(2), a(2); end", FORM),
-    ("program p; integer :: a(2), b(3); a = b; end", FORM),
-    ("program p; integer :: a(16777217); end", FORM),
-    ("program p; integer :: a(2); a = 2147483648; end", FORM),
-    ("program p; integer :: a(2); a = -1; end", FORM),
-    ("program p; integer :: a(2); a = 1 ** 2; end", FORM),
+    // text
     (
-        "program p; integer :: a(2); a = 1; integer :: b(2); end",
-        FORM,
+        "program p\ninteger :: x = 2147483648\nend",
+        "f95a: refused: phase 1, line 2, rule P8\n",
+    ),
+    (
+        "program p; integer :: a(2); a = 2147483648; end",
+        "f95a: refused: phase 1, line 1, rule P8\n",
     ),
     (
         "program p; integer :: a2345678901234567890123456789012(2); end",
-        FORM,
+        "f95a: refused: phase 1, line 1, rule P7\n",
     ),
-    ("program p\r\nend\r\n", FORM),
-    ("program p\0; end", FORM),
-    ("program p ! comment\nend", FORM),
-    ("program p; integer :: a(2); x = a + ; end", FORM),
+    (
+        "program p\0; end",
+        "f95a: refused: phase 1, line 1, rule P2\n",
+    ),
+    (
+        "program p\n\nprint *, 'a\nend",
+        "f95a: refused: phase 1, line 3, rule P5\n",
+    ),
+    (
+        "program p\na = &\n",
+        "f95a: refused: phase 1, line 2, rule P6\n",
+    ),
+    // forms
+    (
+        "program p\nreal :: x\nend",
+        "f95a: refused: phase 2, line 2, rule P12\n",
+    ),
+    (
+        "programp; end",
+        "f95a: refused: phase 2, line 1, rule P11\n",
+    ),
+    (
+        "program end; end",
+        "f95a: refused: phase 2, line 1, rule P11\n",
+    ),
+    (
+        "program p; integer : : a(2); end",
+        "f95a: refused: phase 2, line 1, rule P11\n",
+    ),
+    (
+        "program p; integer :: a(2)\na = 1 +\nreal :: x\nend",
+        "f95a: refused: phase 2, line 2, rule P11\n",
+    ),
+    // nesting
+    ("", "f95a: refused: phase 3, line 1, rule P17\n"),
+    ("program p", "f95a: refused: phase 3, line 1, rule P17\n"),
+    (
+        "program p\ninteger :: a(2)\na = 1\n",
+        "f95a: refused: phase 3, line 4, rule P17\n",
+    ),
+    (
+        "program p\ndo\nend do\n\n! end\n",
+        "f95a: refused: phase 3, line 6, rule P17\n",
+    ),
+    (
+        "program p; end\nend",
+        "f95a: refused: phase 3, line 2, rule P14\n",
+    ),
+    (
+        "program p; integer :: a(2); a = 1\ninteger :: b(2); end",
+        "f95a: refused: phase 3, line 2, rule P14\n",
+    ),
+    (
+        "program p\nend program q",
+        "f95a: refused: phase 3, line 2, rule P15\n",
+    ),
+    (
+        "integer :: a(2)\nend program p",
+        "f95a: refused: phase 3, line 2, rule P15\n",
+    ),
+    // what isn't built yet
+    ("program p; integer :: a(2), a(2); end", FORM),
+    ("program p; integer :: a(2), b(3); a = b; end", FORM),
+    ("program p; integer :: a(16777217); end", FORM),
+    ("program p; integer :: a(2); a = -1; end", FORM),
+    ("program p; integer :: a(2); a = 1 ** 2; end", FORM),
+    ("program p; integer :: a; end", FORM),
+    ("program p; logical :: a(2); end", FORM),
+    ("program p; implicit none; end", FORM),
+    (
+        "program p\ninteger :: a(2)\na = b\nif (.true.) a = 1\nend",
+        "f95a: refused: phase 3, line 4, rule P47\n",
+    ),
+    (
+        "module m\nend module m\nprogram p\nend",
+        "f95a: refused: phase 3, line 1, rule P47\n",
+    ),
+    (
+        "program p\ncontains\nsubroutine s()\nend subroutine\nend",
+        "f95a: refused: phase 3, line 2, rule P47\n",
+    ),
 ];
 
 #[test]
@@ -91,13 +168,79 @@ fn other_sources_are_refused(rt: HostRuntime) -> Result<(), Fail> {
     Ok(())
 }
 
-const OTHER_WORDS: [&[&str]; 6] = [
+/// `a = ((1))`, with so many brackets.
+fn brackets(alloc: Global, count: usize) -> Result<String, AllocError> {
+    let mut source = String::from_str(alloc, "integer :: a(3)\na = ")?;
+    for _ in 0..count {
+        source.push_str("(")?;
+    }
+    source.push_str("1&\n&")?;
+    for _ in 0..count {
+        source.push_str(")")?;
+    }
+    source.push_str("\nend\n")?;
+    Ok(source)
+}
+
+/// So many blocks, one in the other, each begun on a line of its own.
+fn blocks(alloc: Global, count: usize) -> Result<String, AllocError> {
+    let mut source = String::from_str(alloc, "program p\n")?;
+    for _ in 0..count {
+        source.push_str("do\n")?;
+    }
+    for _ in 0..count {
+        source.push_str("end do\n")?;
+    }
+    source.push_str("end\n")?;
+    Ok(source)
+}
+
+fn is_refused(alloc: Global, source: &str, note: &str) -> Result<bool, AllocError> {
+    Ok(carried_out(alloc, &["build", "p"], source.as_bytes(), b"")?.is(1, b"", note))
+}
+
+/// So many brackets, or blocks, and what they are refused for.
+const BRACKETS: [(usize, &str); 2] = [
+    (64, "f95a: refused: phase 3, line 2, rule P47\n"),
+    (65, "f95a: refused: phase 2, line 2, rule P13\n"),
+];
+
+const BLOCKS: [(usize, &str); 2] = [
+    (64, "f95a: refused: phase 3, line 2, rule P47\n"),
+    (65, "f95a: refused: phase 3, line 66, rule P16\n"),
+];
+
+fn first_not_counted(alloc: Global) -> Result<Option<usize>, AllocError> {
+    for (count, note) in &BRACKETS {
+        if !is_refused(alloc, brackets(alloc, *count)?.as_str(), *note)? {
+            return Ok(Some(*count));
+        }
+    }
+    for (count, note) in &BLOCKS {
+        if !is_refused(alloc, blocks(alloc, *count)?.as_str(), *note)? {
+            return Ok(Some(*count));
+        }
+    }
+    Ok(None)
+}
+
+#[test]
+fn brackets_and_blocks_are_counted(rt: HostRuntime) -> Result<(), Fail> {
+    assert_eq!(rt; first_not_counted(rt.alloc())?, None);
+    Ok(())
+}
+
+const OTHER_WORDS: [&[&str]; 10] = [
     &[],
     &["build"],
     &["build", "a", "b"],
     &["Run", "a"],
     &["Build", "a"],
     &["a", "build"],
+    &["report", "a"],
+    &["trial", "1"],
+    &["value", "a"],
+    &["--help"],
 ];
 
 #[test]

@@ -80,7 +80,7 @@ fn programs_do_their_work(rt: HostRuntime) -> Result<(), Fail> {
     Ok(())
 }
 
-const SOURCES: [(&str, &str); 10] = [
+const SOURCES: [(&str, &str); 11] = [
     (
         "program p; integer :: a(3); a = 2; print *, a; end",
         " 2 2 2\n",
@@ -111,6 +111,10 @@ const SOURCES: [(&str, &str); 10] = [
     (
         "program p; integer :: a(1), b(2); b = 1 - 2 - 3; a = 10 - 2 * 3 * 4; print *, b, a; print *, a, b; end",
         " -4 -4 -14\n -14 -4 -4\n",
+    ),
+    (
+        "PROGRAM Sums ! of rows\nINTEGER :: A(2), &\n  b(2)\na = 1 + &\n  & 2 ! three\n\nB = A*A-A\nPRINT *, a; print*,b\nEND PROGRAM sums\n",
+        " 3 3\n 6 6\n",
     ),
 ];
 
@@ -191,7 +195,7 @@ fn other_texts_are_refused(rt: HostRuntime) -> Result<(), Fail> {
     Ok(())
 }
 
-const OTHER_WORDS: [&[&str]; 9] = [
+const OTHER_WORDS: [&[&str]; 11] = [
     &["run"],
     &["run", "a", "b"],
     &["run", "a", "--turns"],
@@ -205,7 +209,9 @@ const OTHER_WORDS: [&[&str]; 9] = [
         "100000000000000000000000000000000000000",
     ],
     &["run", "a", "--turn", "1"],
+    &["run", "a", "--turns", "1", "--turns", "1"],
     &["build", "a", "--turns", "3"],
+    &["--turns=3", "build", "a"],
 ];
 
 #[test]
@@ -252,12 +258,15 @@ fn what_is_no_text_takes_no_input(rt: HostRuntime) -> Result<(), Fail> {
 }
 
 /// Words, and the name of the file that isn't loaded, where there is none but `p`.
-const OPERANDS: [(&[&str], &str); 5] = [
+const OPERANDS: [(&[&str], &str); 8] = [
     (&["build", "q"], "q"),
     (&["run", "a.loop"], "a.loop"),
     (&["run", "", "--turns", "3"], ""),
     (&["run", "P", "--turns", "3"], "P"),
     (&["build", "p "], "p "),
+    (&["--turns", "3", "run", "q"], "q"),
+    (&["run", "--turns=3", "--", "-p"], "-p"),
+    (&["build", "-"], "-"),
 ];
 
 fn first_not_named(

@@ -1,8 +1,0 @@
--- A command as contracts see it.
-use Rattle.f95a_core.specs.declared.words.Command.TheVariants as asked
-use Rattle.f95a_core.specs.declared.words.Command as declared
-use Rattle.f95a_core.specs.Commands.{Command, BuildFile, RunFile}
-
-abbrev pub seen : declared.Command → Command
-seen (asked.BuildFile name) = BuildFile name.now
-seen (asked.RunFile name turns) = RunFile name.now turns
