@@ -1,5 +1,4 @@
 pub mod Listing
 pub mod Declaring
-pub mod Within
 pub mod Seeing
 pub mod SeeingStatements

@@ -1,16 +1,13 @@
 -- What is known of scopes and of rules.
-use Rattle.std.specs.Prelude.{◌≡◌, ℕ, ℤ, true, false, Some, None, ◌↔◌}
+use Rattle.std.specs.Prelude.{◌≡◌, ℕ, true, false, Some, None}
 use Rattle.a95_base.specs.declared.breaks.Break.{Break}
 use Rattle.a95_base.specs.Breaks.{AreBroken, IsLeast, first_of}
-use Rattle.a95_base.specs.IntegerLaws.{IsInteger}
 use Rattle.a95_base.specs.Lists.{Every, Pairwise}
 use Rattle.a95_base.specs.Rules.{declared_twice}
-use Rattle.a95_base.specs.declared.scalar.Scalar.TheVariants as scalar
 use Rattle.f95_tree.specs.Forms.{Word}
 use Rattle.f95_tree.specs.declared.source.Source.{Source as Nested}
 use Rattle.intrinsic_table.specs.Finding.{is_word}
 use Rattle.names_types.specs.Plain.{Source}
-use Rattle.names_types.specs.Constants.{Is, within}
 use Rattle.names_types.specs.Scopes.{Entry, Scope, entries, scopes, is_undeclared, is_of_host}
 use Rattle.names_types.specs.Rules.{Breaks}
 use Rattle.names_types.specs.View.{source_of}
@@ -42,7 +39,3 @@ EachDeclaredOnce = (s : Source) → ((line : ℕ) → Breaks s line declared_twi
 -- of a name that breaks rule 28, rule 19 doesn't speak
 abbrev pub HostIsDeclared : Type 0
 HostIsDeclared = (c : Scope) (name : Word) → is_of_host c name ≡ true → is_undeclared c name ≡ false
-
--- the value of an operation is known exactly where it is an INTEGER
-abbrev pub KnownWithin : Type 0
-KnownWithin = (z : ℤ) → (within z ≡ Is (scalar.Int z)) ↔ IsInteger z

@@ -1,5 +1,5 @@
 //! Laws of scopes and of rules: each is the contract of a function that does nothing.
-ghost use Rattle.names_types.specs.Laws.{ListedAreBroken, FirstIsLeast, NoneIsUnbroken, EachDeclaredOnce, HostIsDeclared, KnownWithin};
+ghost use Rattle.names_types.specs.Laws.{ListedAreBroken, FirstIsLeast, NoneIsUnbroken, EachDeclaredOnce, HostIsDeclared};
 ghost use Rattle.names_types.specs.Nodes.{Literals, References, Brackets, Constructors, Signs, Operations, WholeNames, AppliedNames, Substrings};
 ghost use Rattle.names_types.specs.StatementNodes.{Actions, Ifs, IfBlocks, Selects, Loops, Wheres, Foralls};
 
@@ -46,9 +46,4 @@ pub fn each_declared_once()
 /// A variable of the host isn't undeclared.
 pub fn host_is_declared()
     ensures { HostIsDeclared }
-{}
-
-/// A constant operation has a value exactly where it doesn't leave 32 bits.
-pub fn known_within()
-    ensures { KnownWithin }
 {}

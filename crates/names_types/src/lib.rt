@@ -6,8 +6,10 @@
 #![tactic(auto)]
 
 mod laws;
+mod sense;
 
 pub use laws::{
-    each_declared_once, expressions_as_written, first_is_least, host_is_declared, known_within,
+    each_declared_once, expressions_as_written, first_is_least, host_is_declared,
     listed_are_broken, statements_as_written,
 };
+pub use sense::Sense;
