@@ -1,0 +1,2 @@
+pub mod ArgumentsRows
+pub mod ProceduresRows
