@@ -1,0 +1,12 @@
+pub mod Running
+pub mod Turns
+pub mod Walk
+pub mod TurnsOfRuns
+pub mod Paid
+pub mod PaidRuns
+pub mod Bounded
+pub mod Stays
+pub mod StoresRows
+pub mod ControlRows
+pub mod CallsRows
+pub mod FitsRows

@@ -1,0 +1,17 @@
+pub mod Plain
+pub mod View
+pub mod State
+pub mod Places
+pub mod Elements
+pub mod Statements
+pub mod Run
+pub mod RunLaws
+pub mod Accesses
+pub mod Frames
+pub mod Counts
+pub mod Sound
+pub mod Build
+pub mod StoresRows
+pub mod ControlRows
+pub mod CallsRows
+pub mod FitsRows
