@@ -22,9 +22,11 @@ one_less a b = ap (λ x. x *ℤ b) (sym (pred_is a)) ∙ pred_ℤ-*ℤ a b
 -- what holds of 0, and one up and one down from each integer, holds of all
 pub by_steps : (P : ℤ → Type 0) → P (pos 0) → ((a : ℤ) → P a → P (a +ℤ pos 1)) → ((a : ℤ) → P a → P (a -ℤ pos 1)) → (a : ℤ) → P a
 by_steps P base up down (pos zero) = base
-by_steps P base up down (pos (suc n)) = let is : pos n +ℤ pos 1 ≡ pos (suc n) = omega (arith, ints) in subst P is (up (pos n) (by_steps P base up down (pos n)))
+by_steps P base up down (pos (suc n)) = let is : pos n +ℤ pos 1 ≡ pos (suc n) = omega (arith, ints) in
+    subst P is (up (pos n) (by_steps P base up down (pos n)))
 by_steps P base up down (negsuc zero) = let is : pos 0 -ℤ pos 1 ≡ negsuc zero = refl in subst P is (down (pos 0) base)
-by_steps P base up down (negsuc (suc n)) = let is : negsuc n -ℤ pos 1 ≡ negsuc (suc n) = omega (arith, ints) in subst P is (down (negsuc n) (by_steps P base up down (negsuc n)))
+by_steps P base up down (negsuc (suc n)) = let is : negsuc n -ℤ pos 1 ≡ negsuc (suc n) = omega (arith, ints) in
+    subst P is (down (negsuc n) (by_steps P base up down (negsuc n)))
 
 zero_add : (b : ℤ) → pos 0 +ℤ b ≡ b
 zero_add b = omega (arith, ints)
@@ -40,9 +42,11 @@ mul_add a b c =
     by_steps (λ x. (x +ℤ b) *ℤ c ≡ x *ℤ c +ℤ b *ℤ c)
     (ap (λ x. x *ℤ c) (zero_add b) ∙ sym (ap (λ x. x +ℤ b *ℤ c) (zero-*ℤ c) ∙ zero_add (b *ℤ c)))
     (λ m ih.
-    ap (λ x. x *ℤ c) (turned m (pos 1) b) ∙ one_more (m +ℤ b) c ∙ ap (λ x. x +ℤ c) ih ∙ turned (m *ℤ c) (b *ℤ c) c ∙ ap (λ x. x +ℤ b *ℤ c) (sym (one_more m c)))
+    ap (λ x. x *ℤ c) (turned m (pos 1) b) ∙ one_more (m +ℤ b) c ∙ ap (λ x. x +ℤ c) ih ∙ turned (m *ℤ c) (b *ℤ c) c
+    ∙ ap (λ x. x +ℤ b *ℤ c) (sym (one_more m c)))
     (λ m ih.
-    ap (λ x. x *ℤ c) (sym (turned_less m b (pos 1))) ∙ one_less (m +ℤ b) c ∙ ap (λ x. x -ℤ c) ih ∙ turned_less (m *ℤ c) (b *ℤ c) c ∙ ap (λ x. x +ℤ b *ℤ c) (sym (one_less m c)))
+    ap (λ x. x *ℤ c) (sym (turned_less m b (pos 1))) ∙ one_less (m +ℤ b) c ∙ ap (λ x. x -ℤ c) ih ∙ turned_less (m *ℤ c) (b *ℤ c) c
+    ∙ ap (λ x. x +ℤ b *ℤ c) (sym (one_less m c)))
     a
 
 opposite : (x y : ℤ) → pos 0 ≡ x +ℤ y → x ≡ neg_ℤ y

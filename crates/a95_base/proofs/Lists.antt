@@ -1,5 +1,6 @@
 -- Laws of the words of `specs/Lists.antt`.
-use Rattle.std.proofs.Common.{◌≡◌, ◌⊎◌, ℕ, zero, suc, ◌<◌, List, [], ◌∷◌, ◌++◌, length, get_or, set, map, refl, ap, ◌∙◌, subst, inl, inr, arith, length-append}
+use Rattle.std.proofs.Common.{◌≡◌, ◌⊎◌, ℕ, zero, suc, ◌<◌, List, [], ◌∷◌, ◌++◌, length, get_or, set, map, refl, ap, ◌∙◌, subst, inl}
+use Rattle.std.proofs.Common.{inr, arith, length-append}
 use Rattle.std.specs.List.{flat_map}
 use Rattle.std.proofs.lemmas.List.{get_or_append_left, get_or_at}
 use Rattle.std.proofs.lemmas.Bool.{cases_lt}
@@ -39,7 +40,8 @@ pub Every-from_map : {A B : Type 0} (P : B → Type 0) (f : A → B) (xs : List 
 Every-from_map P f [] p = tt
 Every-from_map P f (x ∷ xs) p = (p.0, Every-from_map P f xs p.1)
 
-pub Every-flat_map : {A B : Type 0} (P : B → Type 0) (f : A → List B) (xs : List A) → Every (λ x. Every P (f x)) xs → Every P (flat_map f xs)
+pub Every-flat_map : {A B : Type 0} (P : B → Type 0) (f : A → List B) (xs : List A) → Every (λ x. Every P (f x)) xs →
+    Every P (flat_map f xs)
 Every-flat_map P f [] p = tt
 Every-flat_map P f (x ∷ xs) p = Every-append P (f x) (flat_map f xs) p.0 (Every-flat_map P f xs p.1)
 
@@ -58,7 +60,8 @@ each_at P [] k d p below = absurd (omega arith)
 each_at P (x ∷ xs) zero d p below = p.0
 each_at P (x ∷ xs) (suc k) d p below = each_at P xs k d p.1 (omega arith)
 
-pub each_from_places : {A : Type 0} (P : A → Type 0) (xs : List A) → ((k : ℕ) (d : A) → k < length xs → P (get_or xs k d)) → Every P xs
+pub each_from_places : {A : Type 0} (P : A → Type 0) (xs : List A) → ((k : ℕ) (d : A) → k < length xs → P (get_or xs k d)) →
+    Every P xs
 each_from_places P [] f = tt
 each_from_places P (x ∷ xs) f = (f 0 x (omega arith), each_from_places P xs (λ k d below. f (suc k) d (omega arith)))
 
@@ -123,21 +126,27 @@ split_at (x ∷ xs) y (inr h) =
 
 -- ---- each item with every later one
 
-pub Pairwise-append : {A : Type 0} (R : A → A → Type 0) (xs ys : List A) → Pairwise R xs → Pairwise R ys → Every (λ x. Every (R x) ys) xs → Pairwise R (xs ++ ys)
+pub Pairwise-append : {A : Type 0} (R : A → A → Type 0) (xs ys : List A) → Pairwise R xs → Pairwise R ys →
+    Every (λ x. Every (R x) ys) xs → Pairwise R (xs ++ ys)
 Pairwise-append R [] ys p q r = q
 Pairwise-append R (x ∷ xs) ys p q r = (Every-append (R x) xs ys p.0 r.0, Pairwise-append R xs ys p.1 q r.1)
 
-pub Pairwise-weaker : {A : Type 0} (R Q : A → A → Type 0) → ((x y : A) → R x y → Q x y) → (xs : List A) → Pairwise R xs → Pairwise Q xs
+pub Pairwise-weaker : {A : Type 0} (R Q : A → A → Type 0) → ((x y : A) → R x y → Q x y) → (xs : List A) → Pairwise R xs →
+    Pairwise Q xs
 Pairwise-weaker R Q f [] p = tt
 Pairwise-weaker R Q f (x ∷ xs) p = (Every-weaker (R x) (Q x) (f x) xs p.0, Pairwise-weaker R Q f xs p.1)
 
 -- the same, where each item is known to have P
-pub Pairwise-weaker_on : {A : Type 0} (P : A → Type 0) (R Q : A → A → Type 0) → ((x y : A) → P x → P y → R x y → Q x y) → (xs : List A) → Every P xs → Pairwise R xs → Pairwise Q xs
+pub Pairwise-weaker_on : {A : Type 0} (P : A → Type 0) (R Q : A → A → Type 0) → ((x y : A) → P x → P y → R x y → Q x y) →
+    (xs : List A) → Every P xs → Pairwise R xs → Pairwise Q xs
 Pairwise-weaker_on P R Q f [] p q = tt
-Pairwise-weaker_on P R Q f (x ∷ xs) p q =
-    (Every-weaker (λ y. P y × R x y) (Q x) (λ y b. f x y p.0 b.0 b.1) xs (Every-both P (R x) xs p.1 q.0), Pairwise-weaker_on P R Q f xs p.1 q.1)
+Pairwise-weaker_on P R Q f (x ∷ xs) p q = (
+  Every-weaker (λ y. P y × R x y) (Q x) (λ y b. f x y p.0 b.0 b.1) xs (Every-both P (R x) xs p.1 q.0),
+  Pairwise-weaker_on P R Q f xs p.1 q.1,
+)
 
-pub Pairwise-both : {A : Type 0} (R Q : A → A → Type 0) (xs : List A) → Pairwise R xs → Pairwise Q xs → Pairwise (λ x y. R x y × Q x y) xs
+pub Pairwise-both : {A : Type 0} (R Q : A → A → Type 0) (xs : List A) → Pairwise R xs → Pairwise Q xs →
+    Pairwise (λ x y. R x y × Q x y) xs
 Pairwise-both R Q [] p q = tt
 Pairwise-both R Q (x ∷ xs) p q = (Every-both (R x) (Q x) xs p.0 q.0, Pairwise-both R Q xs p.1 q.1)
 
@@ -145,16 +154,19 @@ pub Pairwise-all : {A : Type 0} (R : A → A → Type 0) → ((x y : A) → R x 
 Pairwise-all R f [] = tt
 Pairwise-all R f (x ∷ xs) = (Every-all (R x) (f x) xs, Pairwise-all R f xs)
 
-pub Pairwise-map : {A B : Type 0} (R : B → B → Type 0) (f : A → B) (xs : List A) → Pairwise (λ x y. R (f x) (f y)) xs → Pairwise R (map f xs)
+pub Pairwise-map : {A B : Type 0} (R : B → B → Type 0) (f : A → B) (xs : List A) → Pairwise (λ x y. R (f x) (f y)) xs →
+    Pairwise R (map f xs)
 Pairwise-map R f [] p = tt
 Pairwise-map R f (x ∷ xs) p = (Every-map (R (f x)) f xs p.0, Pairwise-map R f xs p.1)
 
-pub Pairwise-from_map : {A B : Type 0} (R : B → B → Type 0) (f : A → B) (xs : List A) → Pairwise R (map f xs) → Pairwise (λ x y. R (f x) (f y)) xs
+pub Pairwise-from_map : {A B : Type 0} (R : B → B → Type 0) (f : A → B) (xs : List A) → Pairwise R (map f xs) →
+    Pairwise (λ x y. R (f x) (f y)) xs
 Pairwise-from_map R f [] p = tt
 Pairwise-from_map R f (x ∷ xs) p = (Every-from_map (R (f x)) f xs p.0, Pairwise-from_map R f xs p.1)
 
 -- each item of one list with each of the pieces
-pub across_pieces : {A B : Type 0} (R : B → B → Type 0) (f : A → List B) (zs : List B) (ys : List A) → Every (λ y. Every (λ z. Every (R z) (f y)) zs) ys → Every (λ z. Every (R z) (flat_map f ys)) zs
+pub across_pieces : {A B : Type 0} (R : B → B → Type 0) (f : A → List B) (zs : List B) (ys : List A) →
+    Every (λ y. Every (λ z. Every (R z) (f y)) zs) ys → Every (λ z. Every (R z) (flat_map f ys)) zs
 across_pieces R f zs [] r = Every-all (λ z. Unit {0}) (λ z. tt) zs
 across_pieces R f zs (y ∷ ys) r =
     Every-weaker (λ z. Every (R z) (f y) × Every (R z) (flat_map f ys)) (λ z. Every (R z) (f y ++ flat_map f ys))
@@ -162,7 +174,8 @@ across_pieces R f zs (y ∷ ys) r =
     (Every-both (λ z. Every (R z) (f y)) (λ z. Every (R z) (flat_map f ys)) zs r.0 (across_pieces R f zs ys r.1))
 
 -- pieces end to end: within each piece, and from each piece to each later one
-pub Pairwise-flat_map : {A B : Type 0} (R : B → B → Type 0) (f : A → List B) (xs : List A) → Every (λ x. Pairwise R (f x)) xs → Pairwise (λ x y. Every (λ z. Every (R z) (f y)) (f x)) xs → Pairwise R (flat_map f xs)
+pub Pairwise-flat_map : {A B : Type 0} (R : B → B → Type 0) (f : A → List B) (xs : List A) → Every (λ x. Pairwise R (f x)) xs →
+    Pairwise (λ x y. Every (λ z. Every (R z) (f y)) (f x)) xs → Pairwise R (flat_map f xs)
 Pairwise-flat_map R f [] p q = tt
 Pairwise-flat_map R f (x ∷ xs) p q =
     Pairwise-append R (f x) (flat_map f xs) p.0 (Pairwise-flat_map R f xs p.1 q.1) (across_pieces R f (f x) xs q.0)
@@ -185,7 +198,8 @@ get_or-count_to (suc n) k d h =
 
 pub each_below : (n : ℕ) → Every (λ k. k < n) (count_to n)
 each_below zero = tt
-each_below (suc n) = Every-append (λ k. k < suc n) (count_to n) (n ∷ []) (Every-weaker (λ k. k < n) (λ k. k < suc n) (λ k h. omega arith) (count_to n) (each_below n)) (omega arith, tt)
+each_below (suc n) = Every-append (λ k. k < suc n) (count_to n) (n ∷ [])
+    (Every-weaker (λ k. k < n) (λ k. k < suc n) (λ k h. omega arith) (count_to n) (each_below n)) (omega arith, tt)
 
 pub Member-count_to : (n k : ℕ) → k < n → Member (count_to n) k
 Member-count_to zero k h = absurd (omega arith)

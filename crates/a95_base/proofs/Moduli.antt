@@ -1,5 +1,6 @@
 -- MOD and MODULO.
-use Rattle.std.proofs.Common.{◌≡◌, ℕ, zero, suc, ◌+◌, ◌-◌, ◌*◌, ◌/◌, ◌%◌, ◌<◌, ℤ, pos, ◌+ℤ◌, ◌-ℤ◌, ◌*ℤ◌, ◌<ℤ◌, ◌≤ℤ◌, FitsSigned, w32, w64, of_z, to_z, refl, sym, ap, ◌∙◌, subst, arith}
+use Rattle.std.proofs.Common.{◌≡◌, ℕ, zero, suc, ◌+◌, ◌-◌, ◌*◌, ◌/◌, ◌%◌, ◌<◌, ℤ, pos, ◌+ℤ◌, ◌-ℤ◌, ◌*ℤ◌, ◌<ℤ◌, ◌≤ℤ◌, FitsSigned}
+use Rattle.std.proofs.Common.{w32, w64, of_z, to_z, refl, sym, ap, ◌∙◌, subst, arith}
 use Rattle.std.specs.Prelude.{negsuc, neg_ℤ, unsigned_abs, int_div, int_rem, Bool, true, false, if◌then◌else◌, Some, None}
 use Rattle.std.specs.Ordering.{int_eq}
 use Rattle.std.specs.Int.{int_rem_euclid}
@@ -89,14 +90,20 @@ near_above a n r =
 
 near_below : (a : ℤ) (n : ℕ) → Rest (neg_ℤ a) (pos (suc n)) → Near a (negsuc n) (neg_ℤ (int_rem_euclid (neg_ℤ a) (pos (suc n))))
 unfolding Near
-near_below a n r =
-    (turned_differs a (int_rem_euclid (neg_ℤ a) (pos (suc n))) n (rest_differs (neg_ℤ a) n), omega (arith, ints, r.is, r.below), λ h. absurd (omega (arith, ints, h)), λ h. omega (arith, ints, r.is))
+near_below a n r = (
+  turned_differs a (int_rem_euclid (neg_ℤ a) (pos (suc n))) n (rest_differs (neg_ℤ a) n),
+  omega (arith, ints, r.is, r.below),
+  λ h. absurd (omega (arith, ints, h)),
+  λ h. omega (arith, ints, r.is),
+)
 
 pub modulo_is_near : ModuloIsNear
 unfolding Near
 modulo_is_near a (pos zero) m e = absurd (none-some m e)
-modulo_is_near a (pos (suc n)) m e = subst (λ z. Near a (pos (suc n)) z) (same_Some _ m e) (near_above a n (rest_of a (pos (suc n)) (omega arith)))
-modulo_is_near a (negsuc n) m e = subst (λ z. Near a (negsuc n) z) (same_Some _ m e) (near_below a n (rest_of (neg_ℤ a) (pos (suc n)) (omega arith)))
+modulo_is_near a (pos (suc n)) m e = subst (λ z. Near a (pos (suc n)) z) (same_Some _ m e)
+    (near_above a n (rest_of a (pos (suc n)) (omega arith)))
+modulo_is_near a (negsuc n) m e = subst (λ z. Near a (negsuc n) z) (same_Some _ m e)
+    (near_below a n (rest_of (neg_ℤ a) (pos (suc n)) (omega arith)))
 
 -- ---- what MOD means
 
@@ -125,12 +132,15 @@ NearToo a p m = DifferByMultiple p a m × (unsigned_abs m < unsigned_abs p) × (
 
 rest_near : (a p : ℤ) → 0 < unsigned_abs p → NearToo a p (int_rem a p)
 unfolding NearToo
-rest_near a p some = ((int_div a p, whole_is (int_div a p) p (int_rem a p) a (quot-rem a p)), rem_below a p some, not_below a p, not_above a p)
+rest_near a p some =
+    ((int_div a p, whole_is (int_div a p) p (int_rem a p) a (quot-rem a p)), rem_below a p some, not_below a p, not_above a p)
 
-by_divisor : (a p m : ℤ) (b : Bool) → int_eq p (pos 0) ≡ b → (if b then None else Some (a -ℤ int_div a p *ℤ p)) ≡ Some m → NearToo a p m
+by_divisor : (a p m : ℤ) (b : Bool) → int_eq p (pos 0) ≡ b → (if b then None else Some (a -ℤ int_div a p *ℤ p)) ≡ Some m →
+    NearToo a p m
 by_divisor a p m true test e = absurd (none-some m e)
 by_divisor a p m false test e =
-    subst (λ z. NearToo a p z) (left_is (int_div a p) p (int_rem a p) a m (quot-rem a p) (same_Some _ m e)) (rest_near a p (some_divisor p test))
+    subst (λ z. NearToo a p z) (left_is (int_div a p) p (int_rem a p) a m (quot-rem a p) (same_Some _ m e))
+    (rest_near a p (some_divisor p test))
 
 pub remainder_is_near : RemainderIsNear
 unfolding NearToo

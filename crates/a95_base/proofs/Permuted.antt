@@ -1,5 +1,6 @@
 -- Laws of lists with the same items in another order.
-use Rattle.std.proofs.Common.{◌≡◌, ℕ, zero, suc, ◌≤◌, List, [], ◌∷◌, ◌++◌, length, map, reverse, refl, sym, ap, ◌∙◌, subst, inl, inr, append_assoc, arith, length-append}
+use Rattle.std.proofs.Common.{◌≡◌, ℕ, zero, suc, ◌≤◌, List, [], ◌∷◌, ◌++◌, length, map, reverse, refl, sym, ap, ◌∙◌, subst, inl}
+use Rattle.std.proofs.Common.{inr, append_assoc, arith, length-append}
 use Rattle.std.specs.List.{flat_map}
 use Rattle.std.proofs.lemmas.List.{reverse-append}
 use Rattle.std.proofs.lemmas.Bool.{cases_eq}
@@ -79,7 +80,8 @@ Permuted-Member z (swap x y xs) (inr (inr h)) = inr (inr h)
 Permuted-Member z (join p q) h = Permuted-Member z q (Permuted-Member z p h)
 
 -- where the order of two items does not matter, each with every later one stays
-pub Permuted-Pairwise : {A : Type 0} (R : A → A → Type 0) → ((x y : A) → R x y → R y x) → {xs ys : List A} → Permuted xs ys → Pairwise R xs → Pairwise R ys
+pub Permuted-Pairwise : {A : Type 0} (R : A → A → Type 0) → ((x y : A) → R x y → R y x) → {xs ys : List A} → Permuted xs ys →
+    Pairwise R xs → Pairwise R ys
 Permuted-Pairwise R turn none h = h
 Permuted-Pairwise R turn (skip x p) h = (Permuted-Every (R x) p h.0, Permuted-Pairwise R turn p h.1)
 Permuted-Pairwise R turn (swap x y xs) h = ((turn x y h.0.0, h.1.0), (h.0.1, h.1.1))
@@ -92,15 +94,18 @@ pub Permuted-flat_map : {A B : Type 0} (f : A → List B) {xs ys : List A} → P
 Permuted-flat_map f none = none
 Permuted-flat_map f (skip x p) = Permuted-append_left (f x) (Permuted-flat_map f p)
 Permuted-flat_map f (swap x y xs) =
-    join (permuted_equal (f x ++ (f y ++ flat_map f xs)) ((f x ++ f y) ++ flat_map f xs) (sym (append_assoc (f x) (f y) (flat_map f xs))))
+    join (permuted_equal (f x ++ (f y ++ flat_map f xs)) ((f x ++ f y) ++ flat_map f xs)
+    (sym (append_assoc (f x) (f y) (flat_map f xs))))
     (join (Permuted-append_right (flat_map f xs) (Permuted-append_turned (f x) (f y)))
     (permuted_equal ((f y ++ f x) ++ flat_map f xs) (f y ++ (f x ++ flat_map f xs)) (append_assoc (f y) (f x) (flat_map f xs))))
 Permuted-flat_map f (join p q) = join (Permuted-flat_map f p) (Permuted-flat_map f q)
 
 -- each piece is reordered
-pub Permuted-pieces : {A B : Type 0} (f g : A → List B) → ((x : A) → Permuted (f x) (g x)) → (xs : List A) → Permuted (flat_map f xs) (flat_map g xs)
+pub Permuted-pieces : {A B : Type 0} (f g : A → List B) → ((x : A) → Permuted (f x) (g x)) → (xs : List A) →
+    Permuted (flat_map f xs) (flat_map g xs)
 Permuted-pieces f g h [] = none
-Permuted-pieces f g h (x ∷ xs) = join (Permuted-append_right (flat_map f xs) (h x)) (Permuted-append_left (g x) (Permuted-pieces f g h xs))
+Permuted-pieces f g h (x ∷ xs) = join (Permuted-append_right (flat_map f xs) (h x))
+    (Permuted-append_left (g x) (Permuted-pieces f g h xs))
 
 -- a list moves past another
 past : {A : Type 0} (xs ys zs : List A) → Permuted (xs ++ (ys ++ zs)) (ys ++ (xs ++ zs))
@@ -110,19 +115,24 @@ past xs ys zs =
     (permuted_equal ((ys ++ xs) ++ zs) (ys ++ (xs ++ zs)) (append_assoc ys xs zs)))
 
 -- two pieces of each item, or first all of the one kind and then all of the other
-pub two_pieces : {A B : Type 0} (f g : A → List B) (xs : List A) → Permuted (flat_map (λ x. f x ++ g x) xs) (flat_map f xs ++ flat_map g xs)
+pub two_pieces : {A B : Type 0} (f g : A → List B) (xs : List A) →
+    Permuted (flat_map (λ x. f x ++ g x) xs) (flat_map f xs ++ flat_map g xs)
 two_pieces f g [] = none
 two_pieces f g (x ∷ xs) =
-    join (permuted_equal ((f x ++ g x) ++ flat_map (λ y. f y ++ g y) xs) (f x ++ (g x ++ flat_map (λ y. f y ++ g y) xs)) (append_assoc (f x) (g x) (flat_map (λ y. f y ++ g y) xs)))
-    (join (Permuted-append_left (f x) (join (Permuted-append_left (g x) (two_pieces f g xs)) (past (g x) (flat_map f xs) (flat_map g xs))))
-    (permuted_equal (f x ++ (flat_map f xs ++ (g x ++ flat_map g xs))) ((f x ++ flat_map f xs) ++ (g x ++ flat_map g xs)) (sym (append_assoc (f x) (flat_map f xs) (g x ++ flat_map g xs)))))
+    join (permuted_equal ((f x ++ g x) ++ flat_map (λ y. f y ++ g y) xs) (f x ++ (g x ++ flat_map (λ y. f y ++ g y) xs))
+    (append_assoc (f x) (g x) (flat_map (λ y. f y ++ g y) xs)))
+    (join (Permuted-append_left (f x)
+    (join (Permuted-append_left (g x) (two_pieces f g xs)) (past (g x) (flat_map f xs) (flat_map g xs))))
+    (permuted_equal (f x ++ (flat_map f xs ++ (g x ++ flat_map g xs))) ((f x ++ flat_map f xs) ++ (g x ++ flat_map g xs))
+    (sym (append_assoc (f x) (flat_map f xs) (g x ++ flat_map g xs)))))
 
 no_pieces : {A B : Type 0} (ys : List A) → flat_map (λ (y : A). let r : List B = [] in r) ys ≡ []
 no_pieces [] = refl
 no_pieces (y ∷ ys) = no_pieces ys
 
 -- two loops change places
-pub loops_turned : {A B C : Type 0} (f : A → B → List C) (xs : List A) (ys : List B) → Permuted (flat_map (λ x. flat_map (λ y. f x y) ys) xs) (flat_map (λ y. flat_map (λ x. f x y) xs) ys)
+pub loops_turned : {A B C : Type 0} (f : A → B → List C) (xs : List A) (ys : List B) →
+    Permuted (flat_map (λ x. flat_map (λ y. f x y) ys) xs) (flat_map (λ y. flat_map (λ x. f x y) xs) ys)
 loops_turned f [] ys = permuted_equal [] (flat_map (λ y. []) ys) (sym (no_pieces ys))
 loops_turned f (x ∷ xs) ys =
     join (Permuted-append_left (flat_map (λ y. f x y) ys) (loops_turned f xs ys))
@@ -136,7 +146,10 @@ one_less xs y zs all n e is = omega (arith, length-append xs zs, length-append x
 -- another item than the one between stands before it or behind
 other : {A : Type 0} (xs : List A) (y : A) (zs : List A) (k : A) → Member (xs ++ y ∷ zs) k → (y ≡ k → ⊥) → Member (xs ++ zs) k
 other xs y zs k h apart =
-    elim (Member-append_cases xs (y ∷ zs) k h) [ inl a ↦ Member-append_left xs zs k a | inr b ↦ elim b [ inl e ↦ absurd (apart e) | inr c ↦ Member-append_right xs zs k c ] ]
+    elim (Member-append_cases xs (y ∷ zs) k h) [
+      | inl a ↦ Member-append_left xs zs k a
+      | inr b ↦ elim b [ inl e ↦ absurd (apart e) | inr c ↦ Member-append_right xs zs k c ]
+    ]
 
 -- a list of n numbers that has each from 1 to n is a reordering of them
 pub pigeonhole : (n : ℕ) (xs : List ℕ) → length xs ≡ n → ((k : ℕ) → 1 ≤ k → k ≤ n → Member xs k) → Permuted xs (down_to_one n)
@@ -146,7 +159,10 @@ pigeonhole (suc n) xs e h =
     let s = split_at xs (suc n) (h (suc n) (omega arith) (omega arith)) in
     join (permuted_equal xs (s.before ++ suc n ∷ s.behind) s.is)
     (join (to_front s.before (suc n) s.behind)
-    (skip (suc n) (pigeonhole n (s.before ++ s.behind) (one_less s.before (suc n) s.behind xs n e s.is) (λ k low high. other s.before (suc n) s.behind k (let P : List ℕ → Type 0 = λ zs. Member zs k in subst P s.is (h k low (omega arith))) (omega arith)))))
+    (skip (suc n)
+    (pigeonhole n (s.before ++ s.behind) (one_less s.before (suc n) s.behind xs n e s.is)
+    (λ k low high. other s.before (suc n) s.behind k
+    (let P : List ℕ → Type 0 = λ zs. Member zs k in subst P s.is (h k low (omega arith))) (omega arith)))))
 
 pub length-down_to_one : (n : ℕ) → length (down_to_one n) ≡ n
 length-down_to_one zero = refl

@@ -1,13 +1,13 @@
 -- Powers of INTEGERs: what a wrapping power gives, and one divided by a power.
-use Rattle.std.proofs.Common.{◌≡◌, ◌≢◌, ℕ, zero, suc, ◌-◌, ◌*◌, ◌/◌, ◌%◌, ◌^◌, ◌<◌, ◌≤◌, true, false, ℤ, pos, ◌+ℤ◌, ◌-ℤ◌, ◌*ℤ◌, ◌<ℤ◌, FitsSigned, w32, of_z, to_z, cond, ◌⊎◌, inl, inr, refl, sym, ap, ◌∙◌, subst, arith}
-use Rattle.std.specs.Prelude.{negsuc, unsigned_abs, int_div, int_rem, neg_ℤ, Bool, Some, ◌==◌}
-use Rattle.std.specs.Int.{int_wrap, int_pow, int_wrapping_div, int_wrapping_pow, cast_signed, cast_unsigned}
-use Rattle.std.specs.Ordering.{int_eq}
-use Rattle.std.proofs.Math.Nat.{div-le_self, div-eq_of_lt, le_trans, pow-suc, pow-zero, zero-mul}
+use Rattle.std.proofs.Common.{◌≡◌, ◌≢◌, ℕ, zero, suc, ◌*◌, ◌%◌, ◌^◌, ◌<◌, ◌≤◌, true, false, ℤ, pos, ◌*ℤ◌, ◌<ℤ◌, FitsSigned, w32}
+use Rattle.std.proofs.Common.{of_z, to_z, cond, ◌⊎◌, inl, inr, refl, sym, ap, ◌∙◌, subst, arith}
+use Rattle.std.specs.Prelude.{negsuc, unsigned_abs, int_rem, neg_ℤ, Bool, Some, ◌==◌}
+use Rattle.std.specs.Int.{int_wrap, int_pow, int_wrapping_pow}
+use Rattle.std.proofs.Math.Nat.{div-eq_of_lt, le_trans, pow-suc, pow-zero, zero-mul}
 use Rattle.std.proofs.lemmas.Nat.{mul-mod, mul-le}
-use Rattle.std.proofs.lemmas.Bool.{cases_eq, false_from_ne_true}
-use Rattle.std.proofs.lemmas.Bool.Decides.{nat_tests, Decides-int_eq}
-use Rattle.std.proofs.lemmas.Int.{ints, to_z-of_z, quot-rem, wrapping_mul_onto, int_wrap-mul_left}
+use Rattle.std.proofs.lemmas.Bool.{cases_eq}
+use Rattle.std.proofs.lemmas.Bool.Decides.{nat_tests}
+use Rattle.std.proofs.lemmas.Int.{ints, to_z-of_z, wrapping_mul_onto, int_wrap-mul_left}
 use Rattle.a95_base.specs.Integer.{wrapped, quotient_of, raised, power_of}
 use Rattle.a95_base.proofs.Wrapping.{wrapped_is}
 use Rattle.a95_base.proofs.Quotients.{not_zero}
@@ -31,13 +31,17 @@ pow_step (negsuc a) e = by_parity (cases_eq (e % 2) 0)
   where
     by_parity : (e % 2 ≡ 0) ⊎ (e % 2 ≡ 0 → ⊥) → int_pow (negsuc a) (suc e) ≡ int_pow (negsuc a) e *ℤ negsuc a
     by_parity (inl even) =
-        let here : int_pow (negsuc a) e ≡ pos (suc a ^ e) = ap (λ r. cond (r == 0) (pos (suc a ^ e)) (neg_ℤ (pos (suc a ^ e)))) even in
-        let next : int_pow (negsuc a) (suc e) ≡ neg_ℤ (pos (suc a ^ suc e)) = ap (λ r. cond (r == 0) (pos (suc a ^ suc e)) (neg_ℤ (pos (suc a ^ suc e)))) (even_next e even) in
+        let here : int_pow (negsuc a) e ≡ pos (suc a ^ e) = ap (λ r. cond (r == 0) (pos (suc a ^ e)) (neg_ℤ (pos (suc a ^ e)))) even
+        in
+        let next : int_pow (negsuc a) (suc e) ≡ neg_ℤ (pos (suc a ^ suc e)) =
+        ap (λ r. cond (r == 0) (pos (suc a ^ suc e)) (neg_ℤ (pos (suc a ^ suc e)))) (even_next e even) in
         next ∙ ap (λ k. neg_ℤ (pos k)) (pow-suc (suc a) e) ∙ ap (λ p. p *ℤ negsuc a) (sym here)
     by_parity (inr odd) =
         let tested : (e % 2 == 0) ≡ false = grind (arith, nat_tests) in
-        let here : int_pow (negsuc a) e ≡ neg_ℤ (pos (suc a ^ e)) = ap (λ b. cond b (pos (suc a ^ e)) (neg_ℤ (pos (suc a ^ e)))) tested in
-        let next : int_pow (negsuc a) (suc e) ≡ pos (suc a ^ suc e) = ap (λ r. cond (r == 0) (pos (suc a ^ suc e)) (neg_ℤ (pos (suc a ^ suc e)))) (odd_next e odd) in
+        let here : int_pow (negsuc a) e ≡ neg_ℤ (pos (suc a ^ e)) =
+        ap (λ b. cond b (pos (suc a ^ e)) (neg_ℤ (pos (suc a ^ e)))) tested in
+        let next : int_pow (negsuc a) (suc e) ≡ pos (suc a ^ suc e) =
+        ap (λ r. cond (r == 0) (pos (suc a ^ suc e)) (neg_ℤ (pos (suc a ^ suc e)))) (odd_next e odd) in
         next ∙ ap pos (pow-suc (suc a) e) ∙ sym (neg_times (suc a ^ e) a) ∙ ap (λ p. p *ℤ negsuc a) (sym here)
 
 pow_none : (z : ℤ) → int_pow z 0 ≡ pos 1
@@ -106,11 +110,13 @@ less_pow b n = ap (λ p. cond (n % 2 == 0) (pos p) (neg_ℤ (pos p))) (one_pow n
 
 pub power_of_less_even : (n : ℤ) → n <ℤ pos 0 → unsigned_abs n % 2 ≡ 0 → power_of (negsuc 0) n ≡ Some (pos 1)
 power_of_less_even (pos n) h even = absurd (omega (arith, ints, h))
-power_of_less_even (negsuc n) h even = ap (quotient_of (pos 1)) (less_pow 0 (suc n) ∙ ap (λ r. cond (r == 0) (pos 1) (negsuc 0)) even) ∙ one_over_one
+power_of_less_even (negsuc n) h even = ap (quotient_of (pos 1))
+    (less_pow 0 (suc n) ∙ ap (λ r. cond (r == 0) (pos 1) (negsuc 0)) even) ∙ one_over_one
 
 pub power_of_less_odd : (n : ℤ) → n <ℤ pos 0 → unsigned_abs n % 2 ≡ 1 → power_of (negsuc 0) n ≡ Some (negsuc 0)
 power_of_less_odd (pos n) h odd = absurd (omega (arith, ints, h))
-power_of_less_odd (negsuc n) h odd = ap (quotient_of (pos 1)) (less_pow 0 (suc n) ∙ ap (λ r. cond (r == 0) (pos 1) (negsuc 0)) odd) ∙ one_over_less
+power_of_less_odd (negsuc n) h odd = ap (quotient_of (pos 1)) (less_pow 0 (suc n) ∙ ap (λ r. cond (r == 0) (pos 1) (negsuc 0)) odd)
+    ∙ one_over_less
 
 times_some : (x y : ℕ) → 0 < x → 0 < y → 0 < x * y
 times_some x y p q = le_trans q (le_mul x y p)
@@ -151,11 +157,13 @@ left_of (suc r) small e = absurd (omega (arith, e))
 rest_is : (n : ℤ) → FitsSigned w32 n → of_z w32 (int_rem (to_z w32 (of_z w32 n)) (pos 2)) ≡ of_z w32 (int_rem n (pos 2))
 rest_is n fits = ap (λ z. of_z w32 (int_rem z (pos 2))) (to_z-of_z w32 n fits)
 
-pub even_exponent : (n : ℤ) → FitsSigned w32 n → n <ℤ pos 0 → of_z w32 (int_rem (to_z w32 (of_z w32 n)) (pos 2)) ≡ 0 → unsigned_abs n % 2 ≡ 0
+pub even_exponent : (n : ℤ) → FitsSigned w32 n → n <ℤ pos 0 → of_z w32 (int_rem (to_z w32 (of_z w32 n)) (pos 2)) ≡ 0 →
+    unsigned_abs n % 2 ≡ 0
 even_exponent (pos n) fits h e = absurd (omega (arith, ints, h))
 even_exponent (negsuc n) fits h e = left_of (suc n % 2) (omega arith) (sym (rest_is (negsuc n) fits) ∙ e)
 
-pub odd_exponent : (n : ℤ) → FitsSigned w32 n → n <ℤ pos 0 → (of_z w32 (int_rem (to_z w32 (of_z w32 n)) (pos 2)) ≡ 0 → ⊥) → unsigned_abs n % 2 ≡ 1
+pub odd_exponent : (n : ℤ) → FitsSigned w32 n → n <ℤ pos 0 → (of_z w32 (int_rem (to_z w32 (of_z w32 n)) (pos 2)) ≡ 0 → ⊥) →
+    unsigned_abs n % 2 ≡ 1
 odd_exponent (pos n) fits h other = absurd (omega (arith, ints, h))
 odd_exponent (negsuc n) fits h other =
     elim (cases_eq (suc n % 2) 0) [

@@ -1,5 +1,6 @@
 -- Quotients of INTEGERs, and what division leaves.
-use Rattle.std.proofs.Common.{◌≡◌, ◌≢◌, ℕ, zero, suc, ◌-◌, ◌/◌, ◌%◌, ◌^◌, ◌<◌, ◌≤◌, false, ℤ, pos, ◌+ℤ◌, ◌-ℤ◌, ◌*ℤ◌, FitsSigned, w8, w16, w32, w64, refl, sym, ap, ◌∙◌, subst, arith}
+use Rattle.std.proofs.Common.{◌≡◌, ◌≢◌, ℕ, zero, suc, ◌-◌, ◌/◌, ◌%◌, ◌^◌, ◌<◌, ◌≤◌, false, ℤ, pos, ◌+ℤ◌, ◌-ℤ◌, ◌*ℤ◌, FitsSigned, w8}
+use Rattle.std.proofs.Common.{w16, w32, w64, refl, sym, ap, ◌∙◌, subst, arith}
 use mir.Syntax.{w128}
 use mir.Val.{bits, hbits}
 use Rattle.std.specs.Prelude.{negsuc, unsigned_abs, int_div, int_rem, neg_ℤ, Some}

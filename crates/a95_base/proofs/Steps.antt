@@ -32,7 +32,8 @@ module _ {E S : Type 0} where
   unfolding ◌>>=◌ stop behind
   stop_ends e next s = refl
 
-  behind_same : {A B : Type 0} (next other : A → S → Ran E S B) → ((a : A) (s : S) → next a s ≡ other a s) → (r : Result A E) (s : S) → behind next r s ≡ behind other r s
+  behind_same : {A B : Type 0} (next other : A → S → Ran E S B) → ((a : A) (s : S) → next a s ≡ other a s) →
+      (r : Result A E) (s : S) → behind next r s ≡ behind other r s
   unfolding behind
   behind_same next other same (Ok a) s = same a s
   behind_same next other same (Err e) s = refl
@@ -44,10 +45,12 @@ module _ {E S : Type 0} where
   then_same step next other same s = behind_same next other same (step s).came (step s).after
 
   -- another first step that comes to the same
-  pub instead : {A B : Type 0} (step other : S → Ran E S A) (next : A → S → Ran E S B) (s : S) → step s ≡ other s → (step >>= next) s ≡ (other >>= next) s
+  pub instead : {A B : Type 0} (step other : S → Ran E S A) (next : A → S → Ran E S B) (s : S) → step s ≡ other s →
+      (step >>= next) s ≡ (other >>= next) s
   unfolding ◌>>=◌
   instead step other next s same = ap (λ r. behind next r.came r.after) same
 
-  pub value_unread : {A B : Type 0} (step : S → Ran E S A) (next : S → Ran E S B) (s : S) → (step >> next) s ≡ (step >>= (λ a. next)) s
+  pub value_unread : {A B : Type 0} (step : S → Ran E S A) (next : S → Ran E S B) (s : S) →
+      (step >> next) s ≡ (step >>= (λ a. next)) s
   unfolding ◌>>=◌ ◌>>◌
   value_unread step next s = refl

@@ -1,5 +1,6 @@
 -- Laws of texts.
-use Rattle.std.proofs.Common.{◌≡◌, ℕ, suc, ◌+◌, ◌-◌, ◌<◌, List, ◌∷◌, ◌++◌, length, get_or, take, drop, replicate, false, true, sym, ap, ◌∙◌, arith}
+use Rattle.std.proofs.Common.{◌≡◌, ℕ, suc, ◌+◌, ◌-◌, ◌<◌, List, ◌∷◌, ◌++◌, length, get_or, take, drop, replicate, false, true, sym}
+use Rattle.std.proofs.Common.{ap, ◌∙◌, arith}
 use Rattle.std.specs.Prelude.{max, nat_lt, ◌==◌, cond}
 use Rattle.std.specs.Ordering.{nat_cmp, ordering_then}
 use Rattle.std.specs.Cmp.Lexicographic.{slice_cmp}
@@ -15,7 +16,8 @@ cmp_same c =
     ap (λ b. cond b Less (cond (c == c) Equal Greater)) below ∙ ap (λ b. cond b Equal Greater) same
 
 fit_front : (n c : ℕ) (xs : List ℕ) → fit (suc n) (c ∷ xs) ≡ c ∷ fit n xs
-fit_front n c xs = let rest : suc n - suc (length xs) ≡ n - length xs = omega arith in ap (λ k. c ∷ (take n xs ++ replicate k 32)) rest
+fit_front n c xs = let rest : suc n - suc (length xs) ≡ n - length xs = omega arith in
+    ap (λ k. c ∷ (take n xs ++ replicate k 32)) rest
 
 -- a byte that both begin with decides nothing
 pub same_front : (c : ℕ) (xs ys : List ℕ) → compare_padded (c ∷ xs) (c ∷ ys) ≡ compare_padded xs ys

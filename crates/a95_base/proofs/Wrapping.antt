@@ -1,10 +1,12 @@
 -- What is left of a number in 32 bits.
-use Rattle.std.proofs.Common.{◌≡◌, ℕ, suc, ◌+◌, ◌-◌, ◌*◌, ◌/◌, ◌%◌, ◌^◌, ◌<◌, ◌≤◌, ℤ, pos, ◌+ℤ◌, ◌-ℤ◌, ◌*ℤ◌, inl, inr, refl, sym, ap, ◌∙◌, subst, arith, Bool, true, false, nat_lt}
+use Rattle.std.proofs.Common.{◌≡◌, ℕ, suc, ◌+◌, ◌-◌, ◌*◌, ◌/◌, ◌%◌, ◌^◌, ◌<◌, ◌≤◌, ℤ, pos, ◌+ℤ◌, ◌-ℤ◌, ◌*ℤ◌, inl, inr, refl, sym}
+use Rattle.std.proofs.Common.{ap, ◌∙◌, subst, arith, Bool, true, false, nat_lt}
 use Rattle.std.specs.Prelude.{negsuc, neg_ℤ, unsigned_abs, FitsSigned}
 use mir.Val.{sel}
 use Rattle.std.proofs.lemmas.Bool.{cases_lt}
 use Rattle.std.proofs.lemmas.Bool.Decides.{nat_tests}
-use Rattle.std.proofs.lemmas.Int.{ints, to_z_pos, int_rem_euclid_is, int_wrap_fits, SFits-int_wrap, int_wrap-add_same, int_wrap-add_right, int_wrap-sub_right, int_wrap-mul_left, int_wrap-mul_right}
+use Rattle.std.proofs.lemmas.Int.{ints, to_z_pos, int_rem_euclid_is, int_wrap_fits, SFits-int_wrap, int_wrap-add_same}
+use Rattle.std.proofs.lemmas.Int.{int_wrap-add_right, int_wrap-sub_right, int_wrap-mul_left, int_wrap-mul_right}
 use Rattle.std.specs.Int.{int_rem_euclid, int_wrap, cast_signed, w32, w64}
 use Rattle.a95_base.specs.Integer.{wrapped}
 use Rattle.a95_base.specs.IntegerLaws.{IsInteger, DifferByMultiple, WrappedIsTheOne}
@@ -20,7 +22,8 @@ low_of_either true n h = refl
 low_of_either false n h = omega arith
 
 -- the number modulo 2 ^ 32 of one that was cut to 64 bits
-low_of_cast : (n : ℕ) → n < 18446744073709551616 → unsigned_abs (int_rem_euclid (cast_signed w64 n) (pos 4294967296)) ≡ n % 4294967296
+low_of_cast : (n : ℕ) → n < 18446744073709551616 → unsigned_abs (int_rem_euclid (cast_signed w64 n) (pos 4294967296))
+    ≡ n % 4294967296
 low_of_cast n h = low_of_either (nat_lt n 9223372036854775808) n h
 
 -- ---- what it means
@@ -39,9 +42,11 @@ lift (negsuc a) = record {
   is = omega (arith, ints);
 }
 
-wrapped_by : (x : ℤ) (k m : ℕ) → (x +ℤ pos 2147483648) +ℤ pos (k * 4294967296) ≡ pos m → wrapped x ≡ pos (m % 4294967296) -ℤ pos 2147483648
+wrapped_by : (x : ℤ) (k m : ℕ) → (x +ℤ pos 2147483648) +ℤ pos (k * 4294967296) ≡ pos m →
+    wrapped x ≡ pos (m % 4294967296) -ℤ pos 2147483648
 unfolding wrapped
-wrapped_by x k m e = ap (λ r. r -ℤ pos 2147483648) (int_rem_euclid_is (x +ℤ pos 2147483648) (pos 4294967296) 4294967296 k m (omega arith) refl e)
+wrapped_by x k m e =
+    ap (λ r. r -ℤ pos 2147483648) (int_rem_euclid_is (x +ℤ pos 2147483648) (pos 4294967296) 4294967296 k m (omega arith) refl e)
 
 in_range : (m : ℕ) → IsInteger (pos (m % 4294967296) -ℤ pos 2147483648)
 in_range m = (omega (arith, ints), omega (arith, ints))
@@ -66,7 +71,8 @@ low_of u j h = omega arith
 there : (x z : ℤ) (u : ℕ) (k : ℤ) → z +ℤ pos 2147483648 ≡ pos u → u < 4294967296 → x ≡ z +ℤ k *ℤ pos 4294967296 → z ≡ wrapped x
 there x z u (pos j) at small e =
     let whole : pos j *ℤ pos 4294967296 ≡ pos (j * 4294967296) = refl in
-    let is : wrapped x ≡ pos ((u + j * 4294967296) % 4294967296) -ℤ pos 2147483648 = wrapped_by x 0 (u + j * 4294967296) (omega (arith, ints, at, e, whole)) in
+    let is : wrapped x ≡ pos ((u + j * 4294967296) % 4294967296) -ℤ pos 2147483648 =
+    wrapped_by x 0 (u + j * 4294967296) (omega (arith, ints, at, e, whole)) in
     sym (is ∙ ap (λ n. pos n -ℤ pos 2147483648) (low_of u j small) ∙ omega (arith, ints, at))
 there x z u (negsuc j) at small e =
     let whole : negsuc j *ℤ pos 4294967296 ≡ neg_ℤ (pos (suc j * 4294967296)) = refl in
@@ -107,7 +113,8 @@ above_range : (a m : ℕ) → m ≡ 2147483648 + (a / 4294967296 + 1) * 42949672
 above_range a m e =
     elim (cases_lt (4294967295 - a % 4294967296) 2147483648) [
       | inl low ↦ omega (arith, ints, e, to_z_pos w32 (4294967295 - a % 4294967296) low)
-      | inr high ↦ high_half (4294967295 - a % 4294967296) _ (omega (arith, e)) high (omega arith) ∙ sym (to_z_high (4294967295 - a % 4294967296) high)
+      | inr high ↦ high_half (4294967295 - a % 4294967296) _ (omega (arith, e)) high (omega arith)
+          ∙ sym (to_z_high (4294967295 - a % 4294967296) high)
     ]
 
 pub wrapped_is : (z : ℤ) → wrapped z ≡ int_wrap w32 z
@@ -157,14 +164,17 @@ module _ (a b x y : ℤ) (left : wrapped a ≡ wrapped x) (right : wrapped b ≡
   pub wrapped-add : wrapped (a +ℤ b) ≡ wrapped (x +ℤ y)
   wrapped-add =
       wrapped_is (a +ℤ b) ∙ int_wrap-add_same w32 a x b cut_left
-      ∙ sym (int_wrap-add_right w32 x b) ∙ ap (λ z. int_wrap w32 (x +ℤ z)) cut_right ∙ int_wrap-add_right w32 x y ∙ sym (wrapped_is (x +ℤ y))
+      ∙ sym (int_wrap-add_right w32 x b) ∙ ap (λ z. int_wrap w32 (x +ℤ z)) cut_right ∙ int_wrap-add_right w32 x y
+      ∙ sym (wrapped_is (x +ℤ y))
 
   pub wrapped-subtract : wrapped (a -ℤ b) ≡ wrapped (x -ℤ y)
   wrapped-subtract =
       wrapped_is (a -ℤ b) ∙ int_wrap-add_same w32 a x (neg_ℤ b) cut_left
-      ∙ sym (int_wrap-sub_right w32 x b) ∙ ap (λ z. int_wrap w32 (x -ℤ z)) cut_right ∙ int_wrap-sub_right w32 x y ∙ sym (wrapped_is (x -ℤ y))
+      ∙ sym (int_wrap-sub_right w32 x b) ∙ ap (λ z. int_wrap w32 (x -ℤ z)) cut_right ∙ int_wrap-sub_right w32 x y
+      ∙ sym (wrapped_is (x -ℤ y))
 
   pub wrapped-multiply : wrapped (a *ℤ b) ≡ wrapped (x *ℤ y)
   wrapped-multiply =
       wrapped_is (a *ℤ b) ∙ sym (int_wrap-mul_left w32 a b) ∙ ap (λ z. int_wrap w32 (z *ℤ b)) cut_left ∙ int_wrap-mul_left w32 x b
-      ∙ sym (int_wrap-mul_right w32 x b) ∙ ap (λ z. int_wrap w32 (x *ℤ z)) cut_right ∙ int_wrap-mul_right w32 x y ∙ sym (wrapped_is (x *ℤ y))
+      ∙ sym (int_wrap-mul_right w32 x b) ∙ ap (λ z. int_wrap w32 (x *ℤ z)) cut_right ∙ int_wrap-mul_right w32 x y
+      ∙ sym (wrapped_is (x *ℤ y))

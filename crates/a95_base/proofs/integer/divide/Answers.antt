@@ -9,4 +9,5 @@ returns c =
     let fits_b : FitsSigned w32 c.args.b = c.ranges.b in
     let fits : FitsSigned w32 c.wrapping_div.result = search rules in
     let quotient = simp to_z-of_z at c.wrapping_div.ensures in
-    ap Some (to_z-of_z w32 c.wrapping_div.result fits ∙ quotient) ∙ divided c.args.a c.args.b fits_a (λ e. c.if-b-eq0.false (ap (of_z w32) e))
+    ap Some (to_z-of_z w32 c.wrapping_div.result fits ∙ quotient)
+    ∙ divided c.args.a c.args.b fits_a (λ e. c.if-b-eq0.false (ap (of_z w32) e))

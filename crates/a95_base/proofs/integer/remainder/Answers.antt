@@ -9,4 +9,5 @@ returns c =
     let fits_p : FitsSigned w32 c.args.p = c.ranges.p in
     let fits : FitsSigned w32 c.wrapping_rem.result = search rules in
     let rest = simp to_z-of_z at c.wrapping_rem.ensures in
-    ap Some (to_z-of_z w32 c.wrapping_rem.result fits ∙ rest) ∙ left_over c.args.a c.args.p (λ e. c.if-p-eq0.false (ap (of_z w32) e))
+    ap Some (to_z-of_z w32 c.wrapping_rem.result fits ∙ rest)
+    ∙ left_over c.args.a c.args.p (λ e. c.if-p-eq0.false (ap (of_z w32) e))
