@@ -1,5 +1,6 @@
 -- An INTEGER that an operation gives.
-use Rattle.std.proofs.Common.{◌≡◌, ◌≢◌, ◌<◌, ℤ, pos, ◌+ℤ◌, ◌*ℤ◌, ◌^◌, Bool, true, false, Option, Some, None, FitsSigned, SomeIff, w32, refl, sym, ap, ◌∙◌, arith}
+use Rattle.std.proofs.Common.{◌≡◌, ◌≢◌, ◌<◌, ℤ, pos, ◌+ℤ◌, ◌*ℤ◌, ◌^◌, Bool, true, false, Option, Some, None, FitsSigned, SomeIff}
+use Rattle.std.proofs.Common.{w32, refl, sym, ap, ◌∙◌, arith}
 use Rattle.std.specs.Prelude.{negsuc, int_div, if◌then◌else◌}
 use Rattle.std.specs.Int.{IsNonZero, CanDivide}
 use Rattle.std.specs.Ordering.{int_eq}
@@ -54,7 +55,8 @@ checked_is None z h = sym (known_or_spoilt (int_eq (wrapped z) z) z (λ e. h (in
 -- and a checked division
 pub divided_is : (r : Option ℤ) (x y : ℤ) → IsNonZero w32 y → SomeIff r (CanDivide w32 x y) (int_div x y)
     → integer_or_spoilt r ≡ within (int_div x y)
-divided_is (Some q) x y some h = ap (λ z. Is (scalar.Int z)) h.1 ∙ sym ((known_within (int_div x y)).1 (fits_integer (int_div x y) h.0.1))
+divided_is (Some q) x y some h = ap (λ z. Is (scalar.Int z)) h.1
+    ∙ sym ((known_within (int_div x y)).1 (fits_integer (int_div x y) h.0.1))
 divided_is None x y some h =
     sym (known_or_spoilt (int_eq (wrapped (int_div x y)) (int_div x y)) (int_div x y)
     (λ e. h (some, integer_fits (int_div x y) ((known_within (int_div x y)).0 e))))
@@ -65,4 +67,5 @@ quotient_by false w e = refl
 
 -- a quotient by another number than 0
 pub divided : (x y : ℤ) → y ≢ pos 0 → within (int_div x y) ≡ quotient_within x y
-divided x y h = quotient_by (int_eq y (pos 0)) (within (int_div x y)) (false_from_ne_true (int_eq y (pos 0)) (λ e. h ((Decides-int_eq y (pos 0)).0 e)))
+divided x y h = quotient_by (int_eq y (pos 0)) (within (int_div x y))
+    (false_from_ne_true (int_eq y (pos 0)) (λ e. h ((Decides-int_eq y (pos 0)).0 e)))

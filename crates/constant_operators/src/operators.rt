@@ -2,7 +2,9 @@
 ghost use Rattle.std.specs.Prelude.{◌≡◌, ◌&&◌, not, Some, IfOk};
 ghost use Rattle.a95_base.specs.declared.scalar.Kind.TheVariants as kind;
 ghost use Rattle.constant_operators.specs.declared.value.Worth.TheVariants.{Is, Unknown};
-ghost use Rattle.constant_operators.specs.Operators.{is_kind, only_if, length_sum, operands, operator_facts, sign_facts, binary, signed, literal, worth_of_one, worth_of_two, operated, signed_value, an_integer, a_truth, a_text, valued_as};
+ghost use Rattle.constant_operators.specs.Operators.{is_kind, only_if, length_sum, operands, operator_facts, sign_facts, binary};
+ghost use Rattle.constant_operators.specs.Operators.{signed, literal, worth_of_one, worth_of_two, operated, signed_value};
+ghost use Rattle.constant_operators.specs.Operators.{an_integer, a_truth, a_text, valued_as};
 
 use crate::scalars::{operated, signed_value};
 use crate::value::{Facts, Valued, Worth};

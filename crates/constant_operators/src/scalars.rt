@@ -2,7 +2,9 @@
 ghost use Rattle.std.specs.Prelude.{◌≡◌, ◌+ℤ◌, ◌-ℤ◌, ◌*ℤ◌, neg_ℤ, pos, ◌++◌, ◌&&◌, ◌||◌, IfOk};
 ghost use Rattle.a95_base.specs.declared.scalar.Scalar.TheVariants as scalar;
 ghost use Rattle.constant_operators.specs.declared.value.Worth.TheVariants.{Is};
-ghost use Rattle.constant_operators.specs.Operators.{integer_of, truth_of, text_of, within, integer_or_spoilt, text_or_spoilt, quotient_within, power_within, compared, stands, are_equivalent, operated, signed_value};
+ghost use Rattle.constant_operators.specs.Operators.{integer_of, truth_of, text_of, within, integer_or_spoilt, text_or_spoilt};
+ghost use Rattle.constant_operators.specs.Operators.{quotient_within, power_within, compared, stands, are_equivalent, operated};
+ghost use Rattle.constant_operators.specs.Operators.{signed_value};
 
 use crate::value::Worth;
 use a95_base::{Bytes, Scalar, compare_padded, power};

@@ -34,13 +34,15 @@ use Rattle.f95_nesting.specs.Machine.{
   place_move,
   depth_at,
 }
-use Rattle.f95_blocks.specs.Units.{role_of, module_by, main_by, start_by, contains_by, procedure_by, place_by, opens_block, with_opened}
+use Rattle.f95_blocks.specs.Units.{role_of, module_by, main_by, start_by, contains_by, procedure_by, place_by, opens_block}
+use Rattle.f95_blocks.specs.Units.{with_opened}
 
 stops_either : (t : Bool) → (if t then state.Stops else state.Stops) ≡ state.Stops
 stops_either true = refl
 stops_either false = refl
 
-module_role : (ms : List Module) (k : Line) (n : Word) (s : Section) (l : Line) (f : Form) → module_move ms k n s l f ≡ module_by ms k n s l (role_of l f)
+module_role : (ms : List Module) (k : Line) (n : Word) (s : Section) (l : Line) (f : Form) → module_move ms k n s l f
+    ≡ module_by ms k n s l (role_of l f)
 module_role ms k n s l (of.Unit (unit_of.Program _)) = refl
 module_role ms k n s l (of.Unit (unit_of.«Module» _)) = refl
 module_role ms k n s l (of.Unit (unit_of.Procedure _)) = refl
@@ -115,7 +117,8 @@ procedure_role ms h k p s b l (of.Unit (unit_of.Procedure _)) = stops_either (is
 procedure_role ms h k p s b l (of.Unit (unit_of.Use _ _)) = refl
 procedure_role ms h k p s b l (of.Unit unit_of.ImplicitNone) = refl
 procedure_role ms h k p s b l (of.Unit unit_of.Contains) = stops_either (is_empty b)
-procedure_role ms h k p s b l (of.Unit unit_of.End) = alone (is_empty b) (into (end_procedure ms h k p s (ending l None None)) (done_of b)) (no_end ms h k p s l (done_of b))
+procedure_role ms h k p s b l (of.Unit unit_of.End) = alone (is_empty b)
+    (into (end_procedure ms h k p s (ending l None None)) (done_of b)) (no_end ms h k p s l (done_of b))
 procedure_role ms h k p s b l (of.Unit (unit_of.EndUnit _ _)) = refl
 procedure_role ms h k p s b l (of.Declaration _) = refl
 procedure_role ms h k p s b l (of.Block _) = refl

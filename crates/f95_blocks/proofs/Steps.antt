@@ -1,5 +1,6 @@
 -- What is noted at a step, along a run and at the end, and what it says of the whole.
-use Rattle.std.proofs.Common.{◌≡◌, ℕ, ◌<◌, Bool, true, false, nat_lt, List, [], ◌∷◌, ◌++◌, Option, Some, None, ◌∙◌, ap, refl, sym, subst, length, append_assoc, append-nil, arith}
+use Rattle.std.proofs.Common.{◌≡◌, ℕ, ◌<◌, Bool, true, false, nat_lt, List, [], ◌∷◌, ◌++◌, Option, Some, None, ◌∙◌, ap, refl, sym}
+use Rattle.std.proofs.Common.{subst, length, append_assoc, append-nil, arith}
 use Rattle.a95_base.specs.declared.source.Line.{Line}
 use Rattle.a95_base.specs.declared.source.Rule.{Rule}
 use Rattle.a95_base.specs.declared.source.PhaseError.TheVariants.{Broken}

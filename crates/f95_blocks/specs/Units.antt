@@ -112,7 +112,8 @@ contains_by ms h l (role.Within _) = state.Stops
 
 abbrev pub procedure_by : List Module → Host → Line → Procedure → Section → Body → Line → Role → State
 procedure_by ms h k p s b l (role.Ends e) = into (end_procedure ms h k p s e) (done_of b)
-procedure_by ms h k p s b l (role.Section x) = before_body b (λ s. state.Goes ms (place.Procedure h k p s b)) (section_move s l (section_form x))
+procedure_by ms h k p s b l (role.Section x) = before_body b (λ s. state.Goes ms (place.Procedure h k p s b))
+    (section_move s l (section_form x))
 procedure_by ms h k p s b l (role.Within f) = into (λ b. state.Goes ms (place.Procedure h k p s b)) (body_move in_procedure b l f)
 procedure_by ms h k p s b l role.Contains = state.Stops
 procedure_by ms h k p s b l (role.Begins _) = state.Stops

@@ -7,14 +7,14 @@ ghost use Rattle.f95_nesting.specs.Nesting.{most_blocks};
 ghost use Rattle.f95_nesting.specs.Machine.{block_end_name, unit_end_name, end_name, depth_at, host_name, place_name, place_depth};
 ghost use Rattle.f95_blocks.specs.Units.{opens, opens_block, with_opened};
 
-use a95_base::{Bytes, Line};
+use a95_base::{Line, SharedBytes};
 use f95_nesting::{Host, Place, body_depth, body_name};
 use f95_tree::{BlockForm, Form, Heading, UnitForm};
 
 /// The most blocks that may be open.
 const MOST_BLOCKS: usize = 64;
 
-fn block_end_name(form: &BlockForm) -> Option<&Bytes>
+fn block_end_name(form: &BlockForm) -> Option<&SharedBytes>
     ensures { option_copied result ≡ block_end_name form.now }
 {
     match form {
@@ -29,7 +29,7 @@ fn block_end_name(form: &BlockForm) -> Option<&Bytes>
     }
 }
 
-fn unit_end_name(form: &UnitForm) -> Option<&Bytes>
+fn unit_end_name(form: &UnitForm) -> Option<&SharedBytes>
     ensures { option_copied result ≡ unit_end_name form.now }
 {
     match form {
@@ -39,7 +39,7 @@ fn unit_end_name(form: &UnitForm) -> Option<&Bytes>
 }
 
 /// The name at an end, ELSE or CASE.
-pub fn end_name(form: &Form) -> Option<&Bytes>
+pub fn end_name(form: &Form) -> Option<&SharedBytes>
     ensures { option_copied result ≡ end_name form.now }
 {
     match form {
@@ -50,7 +50,7 @@ pub fn end_name(form: &Form) -> Option<&Bytes>
 }
 
 /// Whether a name, where there is one, differs from that of the opening.
-pub fn differs(name: Option<&Bytes>, opening: Option<&Bytes>) -> bool
+pub fn differs(name: Option<&SharedBytes>, opening: Option<&SharedBytes>) -> bool
     ensures { result ≡ differs (option_copied name.entry) (option_copied opening.entry) }
 {
     match name {
@@ -62,7 +62,7 @@ pub fn differs(name: Option<&Bytes>, opening: Option<&Bytes>) -> bool
     }
 }
 
-fn program_name(opening: &Option<(Line, Bytes)>) -> Option<&Bytes>
+fn program_name(opening: &Option<(Line, SharedBytes)>) -> Option<&SharedBytes>
     ensures { option_copied result ≡ program_name opening.now }
 {
     match opening {
@@ -71,7 +71,7 @@ fn program_name(opening: &Option<(Line, Bytes)>) -> Option<&Bytes>
     }
 }
 
-fn heading_name(heading: &Heading) -> &Bytes
+fn heading_name(heading: &Heading) -> &SharedBytes
     ensures { result.now ≡ heading_name heading.now }
 {
     match heading {
@@ -80,7 +80,7 @@ fn heading_name(heading: &Heading) -> &Bytes
     }
 }
 
-fn host_name(host: &Host) -> Option<&Bytes>
+fn host_name(host: &Host) -> Option<&SharedBytes>
     ensures { option_copied result ≡ host_name host.now }
 {
     match host {
@@ -90,7 +90,7 @@ fn host_name(host: &Host) -> Option<&Bytes>
 }
 
 /// The name of the innermost block or unit that is open.
-pub fn place_name(place: &Place) -> Option<&Bytes>
+pub fn place_name(place: &Place) -> Option<&SharedBytes>
     ensures { option_copied result ≡ place_name place.now }
 {
     match place {

@@ -6,12 +6,13 @@ ghost use Rattle.f95_nesting.specs.declared.open.Place.TheVariants as place_of;
 ghost use Rattle.f95_nesting.specs.declared.open.Host.TheVariants as host_of;
 ghost use Rattle.f95_nesting.specs.Machine.{into, before_body, no_section, no_body, end_main, end_procedure, place_move};
 ghost use Rattle.f95_blocks.specs.declared.roles.Role.TheVariants as role_of;
-ghost use Rattle.f95_blocks.specs.Units.{module_by, main_by, start_begin, start_by, contains_begin, contains_by, procedure_by, place_by};
+ghost use Rattle.f95_blocks.specs.Units.{module_by, main_by, start_begin, start_by, contains_begin, contains_by, procedure_by};
+ghost use Rattle.f95_blocks.specs.Units.{place_by};
 
 use crate::ends::{end_host, end_main, end_module, end_procedure};
 use crate::roles::{Beginning, Role, SectionForm, role_of};
 use crate::sections::{no_section, with_form};
-use a95_base::{Bytes, Line};
+use a95_base::{Line, SharedBytes};
 use f95_nesting::{Body, Host, Place, State, body_move, done_of, is_empty, no_body};
 use f95_tree::{Ending, Form, Main, Module, Procedure, Section, Statement, Subprogram};
 use sqlite_items::Items;
@@ -22,14 +23,14 @@ use std::alloc::{AllocError, Global};
 struct ModuleHead {
     modules: Items<Module>,
     line: Line,
-    name: Bytes,
+    name: SharedBytes,
 }
 
 /// What the main program begins with, behind the modules.
 #[derive(Drop)]
 struct MainHead {
     modules: Items<Module>,
-    opening: Option<(Line, Bytes)>,
+    opening: Option<(Line, SharedBytes)>,
 }
 
 /// What a procedure begins with, in its host and behind the modules that are ended.
@@ -140,7 +141,8 @@ fn main_host(
     line: Line,
     done: Option<Items<Statement>>,
 ) -> State
-    ensures { result ≡ into (λ xs. state_of.Goes head.modules (place_of.Contains (host_of.Main head.opening section xs line []))) done }
+    ensures { result ≡ into (λ xs. state_of.Goes head.modules (place_of.Contains (host_of.Main head.opening section xs line [])))
+        done }
 {
     match done {
         None => {
@@ -459,7 +461,8 @@ fn procedure_ends(
     line: Line,
     end: Ending,
 ) -> Result<State, AllocError>
-    ensures { IfOk result (λ s. s ≡ procedure_by head.modules head.host head.line head.procedure section body line (role_of.Ends end)) }
+    ensures { IfOk result
+        (λ s. s ≡ procedure_by head.modules head.host head.line head.procedure section body line (role_of.Ends end)) }
 {
     procedure_done(head, section, end, done_of(body))
 }
@@ -487,7 +490,8 @@ fn procedure_with(head: ProcedureHead, body: Body, section: Option<Section>) -> 
 
 /// The same, where no statement stands in it.
 fn before_procedure(head: ProcedureHead, body: Body, section: Option<Section>) -> State
-    ensures { result ≡ before_body body (λ s. state_of.Goes head.modules (place_of.Procedure head.host head.line head.procedure s body)) section }
+    ensures { result
+        ≡ before_body body (λ s. state_of.Goes head.modules (place_of.Procedure head.host head.line head.procedure s body)) section }
 {
     if is_empty(&body) {
         procedure_with(head, body, section)
@@ -506,7 +510,8 @@ fn procedure_section(
     line: Line,
     form: SectionForm,
 ) -> Result<State, AllocError>
-    ensures { IfOk result (λ s. s ≡ procedure_by head.modules head.host head.line head.procedure section body line (role_of.Section form)) }
+    ensures { IfOk result
+        (λ s. s ≡ procedure_by head.modules head.host head.line head.procedure section body line (role_of.Section form)) }
 {
     match with_form(section, line, form) {
         Err(error) => {
@@ -540,7 +545,8 @@ fn procedure_within(
     line: Line,
     form: Form,
 ) -> Result<State, AllocError>
-    ensures { IfOk result (λ s. s ≡ procedure_by head.modules head.host head.line head.procedure section body line (role_of.Within form)) }
+    ensures { IfOk result
+        (λ s. s ≡ procedure_by head.modules head.host head.line head.procedure section body line (role_of.Within form)) }
 {
     match body_move(alloc, true, body, line, form) {
         Err(error) => {

@@ -7,7 +7,7 @@ ghost use Rattle.f95_blocks.specs.Units.{section_form};
 ghost use Rattle.f95_blocks.specs.declared.roles.SectionForm.TheVariants as form_of;
 
 use crate::roles::SectionForm;
-use a95_base::{Bytes, Line};
+use a95_base::{Line, SharedBytes};
 use f95_tree::{Declaration, Section};
 use sqlite_items::Items;
 use std::alloc::{AllocError, Global};
@@ -52,8 +52,8 @@ fn has_uses_alone(section: &Section) -> bool
 fn add_use(
     section: &mut Section,
     line: Line,
-    name: Bytes,
-    only: Option<Items<Bytes>>,
+    name: SharedBytes,
+    only: Option<Items<SharedBytes>>,
 ) -> Result<bool, AllocError>
     ensures { IfOk result (λ may. section_move section.old line (section_form (form_of.Use name only)) ≡ only_if may section.new) }
 {
@@ -83,7 +83,8 @@ fn add_declaration(
     line: Line,
     declared: Declaration,
 ) -> Result<bool, AllocError>
-    ensures { IfOk result (λ may. section_move section.old line (section_form (form_of.Declaration declared)) ≡ only_if may section.new) }
+    ensures { IfOk result
+        (λ may. section_move section.old line (section_form (form_of.Declaration declared)) ≡ only_if may section.new) }
 {
     section.declarations.push((line, declared))?;
     Ok(true)

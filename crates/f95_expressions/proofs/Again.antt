@@ -1,5 +1,6 @@
 -- What is printed is read again: the machine reads the spelling of a well-formed expression as that expression.
-use Rattle.std.proofs.Common.{◌≡◌, ◌≤◌, true, false, ◌&&◌, List, [], ◌∷◌, ◌++◌, map, Option, Some, None, sym, ◌∙◌, ap, subst, refl, append_assoc, append-nil, arith}
+use Rattle.std.proofs.Common.{◌≡◌, ◌≤◌, true, false, ◌&&◌, List, [], ◌∷◌, ◌++◌, map, Option, Some, None, sym, ◌∙◌, ap, subst, refl}
+use Rattle.std.proofs.Common.{append_assoc, append-nil, arith}
 use Rattle.std.specs.Prelude.{option_map, option_and_then, if◌then◌else◌}
 use Rattle.std.proofs.lemmas.Bool.{leb-true, le-leb}
 use Rattle.a95_base.specs.Lists.{Every}
@@ -21,10 +22,16 @@ use Rattle.f95_tree.specs.declared.terminal.Sign.TheVariants as sign
 use Rattle.f95_tree.specs.declared.terminal.Punctuation.{Punctuation}
 use Rattle.f95_tree.specs.declared.terminal.Punctuation.TheVariants as mark
 use Rattle.f95_tree.specs.Levels.{level, left_of, right_of, sign_level, under_sign}
-use Rattle.f95_tree.specs.Spelling.{Text, punctuated, commas, in_brackets, maybe, maybe_behind, sign_terminal, expression, item, reference, value}
+use Rattle.f95_tree.specs.Spelling.{Text, punctuated, commas, in_brackets, maybe, maybe_behind, sign_terminal, expression, item}
+use Rattle.f95_tree.specs.Spelling.{reference, value}
 use Rattle.f95_tree.specs.Grades.{Grade, all, maybe_well, grade, well, well_item, well_reference, well_value}
 use Rattle.f95_tree.specs.Forms.{Word}
-use Rattle.f95_tree.proofs.Nodes.{expression-Literal, expression-Reference, expression-Bracketed, expression-Constructor, expression-Signed, expression-Binary, reference-Whole, reference-Items, reference-Substring, value-One, value-ImpliedDo, grade-Literal, grade-Reference, grade-Bracketed, grade-Constructor, grade-Signed, grade-Binary, well_item-Plain, well_item-Keyword, well_item-Triplet, well_reference-Whole, well_reference-Items, well_reference-Substring, well_value-One, well_value-ImpliedDo}
+use Rattle.f95_tree.proofs.Nodes.{expression-Literal, expression-Reference, expression-Bracketed, expression-Constructor}
+use Rattle.f95_tree.proofs.Nodes.{expression-Signed, expression-Binary, reference-Whole, reference-Items, reference-Substring}
+use Rattle.f95_tree.proofs.Nodes.{value-One, value-ImpliedDo, grade-Literal, grade-Reference, grade-Bracketed, grade-Constructor}
+use Rattle.f95_tree.proofs.Nodes.{grade-Signed, grade-Binary, well_item-Plain, well_item-Keyword, well_item-Triplet}
+use Rattle.f95_tree.proofs.Nodes.{well_reference-Whole, well_reference-Items, well_reference-Substring, well_value-One}
+use Rattle.f95_tree.proofs.Nodes.{well_value-ImpliedDo}
 use Rattle.f95_tree.proofs.Views.{seen-Reference, seen-Items, seen-Triplet}
 use Rattle.f95_tree.proofs.Induction.{Maybe, item_cases, ByNode, each_expression, each_item, each_reference, each_value}
 use Rattle.f95_expressions.specs.declared.pending.Field.{Field}
@@ -37,10 +44,14 @@ use Rattle.f95_expressions.specs.declared.pending.Stage.TheVariants as stage
 use Rattle.f95_expressions.specs.declared.pending.Pending.TheVariants as pending
 use Rattle.f95_expressions.specs.declared.pending.Machine.TheVariants as machine
 use Rattle.f95_expressions.specs.Fields.{field_text, spread_text}
-use Rattle.f95_expressions.specs.Machine.{Stack, Found, holds, did, collected, opened, opened_reference, values_of, implied, with_stage, within, is_nothing, items_of, filled, asked, operated, plain, field, fresh, made, is_closed_by, step, run, item_of, value_of}
+use Rattle.f95_expressions.specs.Machine.{Stack, Found, holds, did, collected, opened, opened_reference, values_of, implied}
+use Rattle.f95_expressions.specs.Machine.{with_stage, within, is_nothing, items_of, filled, asked, operated, plain, field, fresh}
+use Rattle.f95_expressions.specs.Machine.{made, is_closed_by, step, run, item_of, value_of}
 use Rattle.f95_expressions.proofs.Table.{above, beyond, above_sign, stays, lets, lets_more, made_left, made_sign}
 use Rattle.f95_expressions.proofs.Lists.{both, onto, collected_all}
-use Rattle.f95_expressions.proofs.Fields.{behind, behind_field, stage_in, last_in, run_behind, step_behind, item_field_at, item_back, value_field, value_back, expression_field, item_field, parted_by, is_end, end_behind, item_text}
+use Rattle.f95_expressions.proofs.Fields.{behind, behind_field, stage_in, last_in, run_behind, step_behind, item_field_at}
+use Rattle.f95_expressions.proofs.Fields.{item_back, value_field, value_back, expression_field, item_field, parted_by, is_end}
+use Rattle.f95_expressions.proofs.Fields.{end_behind, item_text}
 
 -- a text is read as an expression of this grade
 abbrev pub Reads : Expression → Grade → Text → Type 0
@@ -53,16 +64,19 @@ Again x = Reads x (grade x) (expression x)
 
 -- so is a reference, whatever follows
 abbrev pub ReferenceAgain : Reference → Type 0
-ReferenceAgain x = (s : Stack) (rest : Text) → well_reference x ≡ true → run (machine.Waits s) (reference x ++ rest) ≡ run (machine.Holds s (e.Reference x)) rest
+ReferenceAgain x = (s : Stack) (rest : Text) → well_reference x ≡ true → run (machine.Waits s) (reference x ++ rest)
+    ≡ run (machine.Holds s (e.Reference x)) rest
 
 -- and a value in a bracket
 abbrev pub ValueAgain : Value → Type 0
-ValueAgain w = (k : Bracket) (d : List Field) (left : Option Expression) (g : Stage) (s : Stack) (rest : Text) → well_value w ≡ true → lets 0 rest ≡ true →
+ValueAgain w = (k : Bracket) (d : List Field) (left : Option Expression) (g : Stage) (s : Stack) (rest : Text) →
+    well_value w ≡ true → lets 0 rest ≡ true →
     run (machine.Waits (pending.Open k d left g ∷ s)) (value w ++ rest) ≡ run (behind (pending.Open k d left g ∷ s) (Some w)) rest
 
 -- and a field
 abbrev pub FieldAgain : Field → Type 0
-FieldAgain f = (k : Bracket) (d : List Field) (s : Stack) (rest : Text) → lets 0 rest ≡ true → run (fresh k d s) (field_text f ++ rest) ≡ run (behind_field k d s f) rest
+FieldAgain f = (k : Bracket) (d : List Field) (s : Stack) (rest : Text) → lets 0 rest ≡ true →
+    run (fresh k d s) (field_text f ++ rest) ≡ run (behind_field k d s f) rest
 
 abbrev pub ItemAgain : Item → Type 0
 ItemAgain x = well_item x ≡ true → FieldAgain (item_field x)
@@ -92,10 +106,14 @@ on_binary op a b ha hb = as_node (e.Binary op a b) _ _ (grade-Binary op a b) (ex
     ∙ hb (pending.Left a op ∷ s) rest wb.1 right (lets_more (level op) (grade b).0 rest (omega (arith, beyond op)) l)
     ∙ made_left s a op b rest l)
 
-signed_step : (g : Sign) (s : Stack) (rest : Text) → asked s ≤ sign_level g → run (machine.Waits s) (sign_terminal g ∷ rest) ≡ run (machine.Waits (pending.Before g ∷ s)) rest
-signed_step sign.Plus s rest h = ap (λ c. run (if c then machine.Waits (pending.Before sign.Plus ∷ s) else machine.Stops) rest) (le-leb _ _ h)
-signed_step sign.Minus s rest h = ap (λ c. run (if c then machine.Waits (pending.Before sign.Minus ∷ s) else machine.Stops) rest) (le-leb _ _ h)
-signed_step sign.Not s rest h = ap (λ c. run (if c then machine.Waits (pending.Before sign.Not ∷ s) else machine.Stops) rest) (le-leb _ _ h)
+signed_step : (g : Sign) (s : Stack) (rest : Text) → asked s ≤ sign_level g → run (machine.Waits s) (sign_terminal g ∷ rest)
+    ≡ run (machine.Waits (pending.Before g ∷ s)) rest
+signed_step sign.Plus s rest h = ap (λ c. run (if c then machine.Waits (pending.Before sign.Plus ∷ s) else machine.Stops) rest)
+    (le-leb _ _ h)
+signed_step sign.Minus s rest h = ap (λ c. run (if c then machine.Waits (pending.Before sign.Minus ∷ s) else machine.Stops) rest)
+    (le-leb _ _ h)
+signed_step sign.Not s rest h = ap (λ c. run (if c then machine.Waits (pending.Before sign.Not ∷ s) else machine.Stops) rest)
+    (le-leb _ _ h)
 
 on_signed : (g : Sign) (x : Expression) → Again x → Again (e.Signed g x)
 on_signed g x hx = as_node (e.Signed g x) _ _ (grade-Signed g x) (expression-Signed g x) (λ s rest w h l.
@@ -111,7 +129,8 @@ on_one : (x : Expression) → Again x → ValueAgain (v.One x)
 unfolding roll-Value denote.Hole.Carrier.roll out-Value denote.Hole.Carrier.out
 on_one x hx k d left g s rest w l =
     ap (λ t. run (machine.Waits (pending.Open k d left g ∷ s)) (t ++ rest)) (value-One x)
-    ∙ hx (pending.Open k d left g ∷ s) rest (sym (well_value-One x) ∙ w) (omega arith) (lets_more 0 (grade x).0 rest (omega arith) l)
+    ∙ hx (pending.Open k d left g ∷ s) rest (sym (well_value-One x) ∙ w) (omega arith)
+    (lets_more 0 (grade x).0 rest (omega arith) l)
 
 -- fields in a row, the first one first, each as it is spelled
 abbrev pub FieldsAgain : {A : Type 0} → (A → Field) → List A → Type 0
@@ -132,7 +151,8 @@ list_again g text same x (y ∷ ys) again k s tail end l h d =
     ∙ end_behind k d s (g x) mark.Comma (commas (map text (y ∷ ys)) ++ tail) refl
     ∙ list_again g text same y ys again.1 k s tail end l h (g x ∷ d)
 
-closed_part : (k : Bracket) (d : List Field) (f : Field) (s : Stack) (p : Punctuation) → is_closed_by k p ≡ true → (is_end p ≡ true) × (parted_by k d f s p ≡ made k (f ∷ d) s)
+closed_part : (k : Bracket) (d : List Field) (f : Field) (s : Stack) (p : Punctuation) → is_closed_by k p ≡ true →
+    (is_end p ≡ true) × (parted_by k d f s p ≡ made k (f ∷ d) s)
 closed_part kind.Array d f s mark.CloseArray c = (refl, refl)
 closed_part kind.Array d f s p c = absurd (cc)
 closed_part kind.Plain d f s mark.Close c = (refl, refl)
@@ -150,29 +170,35 @@ end_lets mark.Open rest h = absurd (cc)
 end_lets p rest h = refl
 
 -- a closer behind the last field
-pub closer_behind : (k : Bracket) (s : Stack) (p : Punctuation) (rest : Text) → is_closed_by k p ≡ true → (d : List Field) (f : Field) →
+pub closer_behind : (k : Bracket) (s : Stack) (p : Punctuation) (rest : Text) → is_closed_by k p ≡ true →
+    (d : List Field) (f : Field) →
     run (behind_field k d s f) (terminal.Punctuation p ∷ rest) ≡ run (made k (f ∷ d) s) rest
-closer_behind k s p rest c d f = let part = closed_part k d f s p c in end_behind k d s f p rest part.0 ∙ ap (λ m. run m rest) part.1
+closer_behind k s p rest c d f = let part = closed_part k d f s p c in end_behind k d s f p rest part.0
+    ∙ ap (λ m. run m rest) part.1
 
 -- a list of fields in brackets
 pub closed_list : {A : Type 0} (g : A → Field) (text : A → Text) → ((x : A) → field_text (g x) ≡ text x) → (x : A) (xs : List A) →
-    FieldsAgain g (x ∷ xs) → (k : Bracket) (s : Stack) (p : Punctuation) (rest : Text) → is_closed_by k p ≡ true → (d : List Field) →
+    FieldsAgain g (x ∷ xs) → (k : Bracket) (s : Stack) (p : Punctuation) (rest : Text) → is_closed_by k p ≡ true →
+    (d : List Field) →
     run (fresh k d s) (commas (map text (x ∷ xs)) ++ terminal.Punctuation p ∷ rest) ≡ run (made k (onto (map g (x ∷ xs)) d) s) rest
 closed_list g text same x xs again k s p rest c d =
-    list_again g text same x xs again k s (terminal.Punctuation p ∷ rest) (λ fs. run (made k fs s) rest) (end_lets p rest (closed_part k d (g x) s p c).0)
+    list_again g text same x xs again k s (terminal.Punctuation p ∷ rest) (λ fs. run (made k fs s) rest)
+    (end_lets p rest (closed_part k d (g x) s p c).0)
     (closer_behind k s p rest c) d
 
 -- a list of fields and a comma
 pub comma_list : {A : Type 0} (g : A → Field) (text : A → Text) → ((x : A) → field_text (g x) ≡ text x) → (x : A) (xs : List A) →
     FieldsAgain g (x ∷ xs) → (k : Bracket) (s : Stack) (rest : Text) (d : List Field) →
-    run (fresh k d s) (commas (map text (x ∷ xs)) ++ terminal.Punctuation mark.Comma ∷ rest) ≡ run (fresh k (onto (map g (x ∷ xs)) d) s) rest
+    run (fresh k d s) (commas (map text (x ∷ xs)) ++ terminal.Punctuation mark.Comma ∷ rest)
+    ≡ run (fresh k (onto (map g (x ∷ xs)) d) s) rest
 comma_list g text same x xs again k s rest d =
     list_again g text same x xs again k s (terminal.Punctuation mark.Comma ∷ rest) (λ fs. run (fresh k fs s) rest) refl
     (λ d f. end_behind k d s f mark.Comma rest refl) d
 
 -- ---- nodes with fields
 
-bracket_text : (inside rest : Text) (p : Punctuation) → (inside ++ punctuated p []) ++ rest ≡ inside ++ terminal.Punctuation p ∷ rest
+bracket_text : (inside rest : Text) (p : Punctuation) → (inside ++ punctuated p []) ++ rest ≡ inside ++ terminal.Punctuation p
+    ∷ rest
 bracket_text inside rest p = append_assoc inside (punctuated p []) rest
 
 bracketed_made : (x : Expression) (s : Stack) → made kind.Plain (expression_field x ∷ []) s ≡ machine.Holds s (e.Bracketed x)
@@ -200,12 +226,16 @@ every_item : (xs : List Item) → Every ItemAgain xs → all (map well_item xs) 
 every_item [] h w = tt
 every_item (x ∷ xs) h w = let ws = both _ _ w in (h.0 ws.0, every_item xs h.1 ws.1)
 
-constructor_made : (x : Value) (vs : List Value) (s : Stack) → made kind.Array (onto (map value_field (x ∷ vs)) []) s ≡ machine.Holds s (e.Constructor (x ∷ vs))
-constructor_made x vs s = ap (λ o. holds s (option_map e.Constructor (option_and_then filled o))) (collected_all value_of value_field value_back (x ∷ vs))
+constructor_made : (x : Value) (vs : List Value) (s : Stack) → made kind.Array (onto (map value_field (x ∷ vs)) []) s
+    ≡ machine.Holds s (e.Constructor (x ∷ vs))
+constructor_made x vs s = ap (λ o. holds s (option_map e.Constructor (option_and_then filled o)))
+    (collected_all value_of value_field value_back (x ∷ vs))
 
 on_constructor : (vs : List Value) → Every ValueAgain vs → Again (e.Constructor vs)
-on_constructor [] h = as_node (e.Constructor []) _ _ (grade-Constructor []) (expression-Constructor []) (λ s rest w a l. absurd (cc))
-on_constructor (x ∷ vs) h = as_node (e.Constructor (x ∷ vs)) _ _ (grade-Constructor (x ∷ vs)) (expression-Constructor (x ∷ vs)) (λ s rest w a l.
+on_constructor [] h = as_node (e.Constructor []) _ _ (grade-Constructor []) (expression-Constructor [])
+    (λ s rest w a l. absurd (cc))
+on_constructor (x ∷ vs) h = as_node (e.Constructor (x ∷ vs)) _ _ (grade-Constructor (x ∷ vs)) (expression-Constructor (x ∷ vs))
+    (λ s rest w a l.
     ap (run (fresh kind.Array [] s)) (bracket_text (commas (map value (x ∷ vs))) rest mark.CloseArray)
     ∙ closed_list value_field value (λ w. refl) x vs (every_value (x ∷ vs) h w) kind.Array s mark.CloseArray rest refl []
     ∙ ap (λ m. run m rest) (constructor_made x vs s))
@@ -215,7 +245,8 @@ on_constructor (x ∷ vs) h = as_node (e.Constructor (x ∷ vs)) _ _ (grade-Cons
 -- a spread behind whatever left side
 abbrev pub SpreadAgain : Spread → Type 0
 SpreadAgain sp = (k : Bracket) (d : List Field) (left : Option Expression) (s : Stack) (rest : Text) → lets 0 rest ≡ true →
-    run (machine.Waits (pending.Open k d left stage.Start ∷ s)) (spread_text sp ++ rest) ≡ run (behind (pending.Open k d left (stage_in sp) ∷ s) (last_in sp)) rest
+    run (machine.Waits (pending.Open k d left stage.Start ∷ s)) (spread_text sp ++ rest)
+    ≡ run (behind (pending.Open k d left (stage_in sp) ∷ s) (last_in sp)) rest
 
 pub value_spread : (w : Value) → ValueAgain w → well_value w ≡ true → SpreadAgain (spread.One w)
 value_spread w h q k d left s rest l = h k d left stage.Start s rest q l
@@ -225,10 +256,12 @@ one_spread x hx w = value_spread (v.One x) (on_one x hx) (well_value-One x ∙ w
 
 maybe_again : (o : Option Expression) → Maybe Again o → maybe_well (option_map grade o) ≡ true →
     (k : Bracket) (d : List Field) (left : Option Expression) (g : Stage) (s : Stack) (rest : Text) → lets 0 rest ≡ true →
-    run (machine.Waits (pending.Open k d left g ∷ s)) (maybe (option_map expression o) ++ rest) ≡ run (behind (pending.Open k d left g ∷ s) (option_map v.One o)) rest
+    run (machine.Waits (pending.Open k d left g ∷ s)) (maybe (option_map expression o) ++ rest)
+    ≡ run (behind (pending.Open k d left g ∷ s) (option_map v.One o)) rest
 maybe_again None h w k d left g s rest l = refl
 maybe_again (Some x) h w k d left g s rest l =
-    ap (λ t. run (machine.Waits (pending.Open k d left g ∷ s)) (t ++ rest)) (sym (value-One x)) ∙ on_one x h k d left g s rest (well_value-One x ∙ w) l
+    ap (λ t. run (machine.Waits (pending.Open k d left g ∷ s)) (t ++ rest)) (sym (value-One x))
+    ∙ on_one x h k d left g s rest (well_value-One x ∙ w) l
 
 plain_again : (o : Option Expression) → plain (option_map v.One o) ≡ Some o
 unfolding roll-Value denote.Hole.Carrier.roll out-Value denote.Hole.Carrier.out
@@ -243,7 +276,8 @@ colon_lower k d left s o rest =
     ∙ ap (λ m. run m rest) (step_behind k d left stage.Start s mark.Colon (option_map v.One o) refl
     ∙ ap (λ q. with_stage k d left s (option_map stage.Upper q)) (plain_again o))
 
-colon_upper : (k : Bracket) (d : List Field) (left : Option Expression) (a : Option Expression) (s : Stack) (o : Option Expression) (rest : Text) →
+colon_upper : (k : Bracket) (d : List Field) (left : Option Expression) (a : Option Expression) (s : Stack) (o : Option Expression)
+    (rest : Text) →
     run (behind (pending.Open k d left (stage.Upper a) ∷ s) (option_map v.One o)) (terminal.Punctuation mark.Colon ∷ rest)
     ≡ run (machine.Waits (pending.Open k d left (stage.Stride a o) ∷ s)) rest
 colon_upper k d left a s o rest =
@@ -253,14 +287,17 @@ colon_upper k d left a s o rest =
 
 triplet_text : (a b c : Option Expression) (rest : Text) →
     spread_text (spread.Triplet a b c) ++ rest
-    ≡ maybe (option_map expression a) ++ terminal.Punctuation mark.Colon ∷ (maybe (option_map expression b) ++ (maybe_behind mark.Colon (option_map expression c) ++ rest))
+    ≡ maybe (option_map expression a) ++ terminal.Punctuation mark.Colon
+    ∷ (maybe (option_map expression b) ++ (maybe_behind mark.Colon (option_map expression c) ++ rest))
 triplet_text a b c rest =
-    append_assoc (maybe (option_map expression a)) (punctuated mark.Colon (maybe (option_map expression b) ++ maybe_behind mark.Colon (option_map expression c))) rest
+    append_assoc (maybe (option_map expression a))
+    (punctuated mark.Colon (maybe (option_map expression b) ++ maybe_behind mark.Colon (option_map expression c))) rest
     ∙ ap (λ t. maybe (option_map expression a) ++ terminal.Punctuation mark.Colon ∷ t)
     (append_assoc (maybe (option_map expression b)) (maybe_behind mark.Colon (option_map expression c)) rest)
 
 pub triplet_spread : (a b c : Option Expression) → Maybe Again a → Maybe Again b → Maybe Again c →
-    maybe_well (option_map grade a) ≡ true → maybe_well (option_map grade b) ≡ true → maybe_well (option_map grade c) ≡ true → SpreadAgain (spread.Triplet a b c)
+    maybe_well (option_map grade a) ≡ true → maybe_well (option_map grade b) ≡ true → maybe_well (option_map grade c) ≡ true →
+    SpreadAgain (spread.Triplet a b c)
 triplet_spread a b None ha hb hc wa wb wc k d left s rest l =
     ap (run (machine.Waits (pending.Open k d left stage.Start ∷ s))) (triplet_text a b None rest)
     ∙ maybe_again a ha wa k d left stage.Start s (terminal.Punctuation mark.Colon ∷ (maybe (option_map expression b) ++ rest)) refl
@@ -268,7 +305,9 @@ triplet_spread a b None ha hb hc wa wb wc k d left s rest l =
     ∙ maybe_again b hb wb k d left (stage.Upper a) s rest l
 triplet_spread a b (Some c) ha hb hc wa wb wc k d left s rest l =
     ap (run (machine.Waits (pending.Open k d left stage.Start ∷ s))) (triplet_text a b (Some c) rest)
-    ∙ maybe_again a ha wa k d left stage.Start s (terminal.Punctuation mark.Colon ∷ (maybe (option_map expression b) ++ terminal.Punctuation mark.Colon ∷ (expression c ++ rest))) refl
+    ∙ maybe_again a ha wa k d left stage.Start s
+    (terminal.Punctuation mark.Colon
+    ∷ (maybe (option_map expression b) ++ terminal.Punctuation mark.Colon ∷ (expression c ++ rest))) refl
     ∙ colon_lower k d left s a (maybe (option_map expression b) ++ terminal.Punctuation mark.Colon ∷ (expression c ++ rest))
     ∙ maybe_again b hb wb k d left (stage.Upper a) s (terminal.Punctuation mark.Colon ∷ (expression c ++ rest)) refl
     ∙ colon_upper k d left a s b (expression c ++ rest)
@@ -280,10 +319,13 @@ left_step : (k : Bracket) (d : List Field) (s : Stack) (x : Expression) (rest : 
 unfolding roll-Value denote.Hole.Carrier.roll out-Value denote.Hole.Carrier.out
 left_step k d s x rest = refl
 
-pub field_reads : (left : Option Expression) (sp : Spread) → Maybe Again left → maybe_well (option_map grade left) ≡ true → SpreadAgain sp → FieldAgain (field left sp)
+pub field_reads : (left : Option Expression) (sp : Spread) → Maybe Again left → maybe_well (option_map grade left) ≡ true →
+    SpreadAgain sp → FieldAgain (field left sp)
 field_reads None sp h w hs k d s rest l = hs k d None s rest l
 field_reads (Some x) sp h w hs k d s rest l =
-    ap (run (fresh k d s)) (append_assoc (expression x ++ punctuated mark.Assign []) (spread_text sp) rest ∙ append_assoc (expression x) (punctuated mark.Assign []) (spread_text sp ++ rest))
+    ap (run (fresh k d s))
+    (append_assoc (expression x ++ punctuated mark.Assign []) (spread_text sp) rest
+    ∙ append_assoc (expression x) (punctuated mark.Assign []) (spread_text sp ++ rest))
     ∙ h (pending.Open k d None stage.Start ∷ s) (terminal.Punctuation mark.Assign ∷ (spread_text sp ++ rest)) w (omega arith) refl
     ∙ left_step k d s x (spread_text sp ++ rest)
     ∙ hs k d (Some x) s rest l
@@ -301,7 +343,8 @@ on_keyword : (n : Word) (x : Expression) → Again x → ItemAgain (i.Keyword n 
 unfolding denote.Hole.Carrier.roll denote.Hole.Carrier.out roll-Item out-Item
 on_keyword n x hx w =
     field_reads (Some (e.Reference (r.Whole n))) (spread.One (v.One x)) (on_reference (r.Whole n) (on_whole n))
-    (ap (λ (g : Grade). g.1) (grade-Reference (r.Whole n)) ∙ well_reference-Whole n) (one_spread x hx (sym (well_item-Keyword n x) ∙ w))
+    (ap (λ (g : Grade). g.1) (grade-Reference (r.Whole n)) ∙ well_reference-Whole n)
+    (one_spread x hx (sym (well_item-Keyword n x) ∙ w))
 
 on_triplet : (a b c : Option Expression) → Maybe Again a → Maybe Again b → Maybe Again c → ItemAgain (i.Triplet a b c)
 on_triplet a b c ha hb hc w =
@@ -318,7 +361,8 @@ unfolding denote.Hole.Carrier.roll denote.Hole.Carrier.out roll-Expression out-E
 open_whole s n rest = refl
 
 open_items : (s : Stack) (n : Word) (xs : List Item) (rest : Text) →
-    run (machine.Holds s (e.Reference (r.Items n xs))) (terminal.Punctuation mark.Open ∷ rest) ≡ run (fresh (kind.Part n xs) [] s) rest
+    run (machine.Holds s (e.Reference (r.Items n xs))) (terminal.Punctuation mark.Open ∷ rest)
+    ≡ run (fresh (kind.Part n xs) [] s) rest
 open_items s n xs rest =
     ap (λ y. run (opened s y) rest) (seen-Reference (r.Items n xs)) ∙ ap (λ y. run (opened_reference s y) rest) (seen-Items n xs)
 
@@ -339,36 +383,45 @@ items_again : (x : Item) (xs : List Item) → items_of (onto (map item_field (x 
 items_again x xs = ap (collected item_of []) (within_items x xs) ∙ collected_all item_of item_field item_back (x ∷ xs)
 
 items_read : (n : Word) (xs : List Item) → Every ItemAgain xs → all (map well_item xs) ≡ true → (s : Stack) (rest : Text) →
-    run (machine.Waits s) (terminal.Name n ∷ (in_brackets (commas (map item xs)) ++ rest)) ≡ run (machine.Holds s (e.Reference (r.Items n xs))) rest
+    run (machine.Waits s) (terminal.Name n ∷ (in_brackets (commas (map item xs)) ++ rest))
+    ≡ run (machine.Holds s (e.Reference (r.Items n xs))) rest
 items_read n [] h w s rest = open_whole s n (terminal.Punctuation mark.Close ∷ rest)
 items_read n (x ∷ xs) h w s rest =
-    ap (λ t. run (machine.Waits s) (terminal.Name n ∷ terminal.Punctuation mark.Open ∷ t)) (bracket_text (commas (map item (x ∷ xs))) rest mark.Close)
+    ap (λ t. run (machine.Waits s) (terminal.Name n ∷ terminal.Punctuation mark.Open ∷ t))
+    (bracket_text (commas (map item (x ∷ xs))) rest mark.Close)
     ∙ open_whole s n (commas (map item (x ∷ xs)) ++ terminal.Punctuation mark.Close ∷ rest)
     ∙ closed_list item_field item item_text x xs (every_item (x ∷ xs) h w) (kind.Behind n) s mark.Close rest refl []
     ∙ ap (λ o. run (holds s (option_map (λ items. e.Reference (r.Items n items)) o)) rest) (items_again x xs)
 
 on_items : (n : Word) (xs : List Item) → Every ItemAgain xs → ReferenceAgain (r.Items n xs)
 on_items n xs h s rest w =
-    ap (λ t. run (machine.Waits s) (t ++ rest)) (reference-Items n xs) ∙ items_read n xs h (sym (well_reference-Items n xs) ∙ w) s rest
+    ap (λ t. run (machine.Waits s) (t ++ rest)) (reference-Items n xs)
+    ∙ items_read n xs h (sym (well_reference-Items n xs) ∙ w) s rest
 
 range_text : (a b : Option Expression) (rest : Text) →
-    ((maybe (option_map expression a) ++ punctuated mark.Colon (maybe (option_map expression b))) ++ punctuated mark.Close []) ++ rest
+    ((maybe (option_map expression a) ++ punctuated mark.Colon (maybe (option_map expression b))) ++ punctuated mark.Close [])
+    ++ rest
     ≡ spread_text (spread.Triplet a b None) ++ terminal.Punctuation mark.Close ∷ rest
 range_text a b rest =
     bracket_text (maybe (option_map expression a) ++ punctuated mark.Colon (maybe (option_map expression b))) rest mark.Close
-    ∙ ap (λ t. (maybe (option_map expression a) ++ punctuated mark.Colon t) ++ terminal.Punctuation mark.Close ∷ rest) (sym (append-nil (maybe (option_map expression b))))
+    ∙ ap (λ t. (maybe (option_map expression a) ++ punctuated mark.Colon t) ++ terminal.Punctuation mark.Close ∷ rest)
+    (sym (append-nil (maybe (option_map expression b))))
 
-on_substring : (n : Word) (xs : List Item) (a b : Option Expression) → Every ItemAgain xs → Maybe Again a → Maybe Again b → ReferenceAgain (r.Substring n xs a b)
+on_substring : (n : Word) (xs : List Item) (a b : Option Expression) → Every ItemAgain xs → Maybe Again a → Maybe Again b →
+    ReferenceAgain (r.Substring n xs (a, b))
 on_substring n xs a b h ha hb s rest w =
-    let ws = both (all (map well_item xs)) (maybe_well (option_map grade a) && maybe_well (option_map grade b)) (sym (well_reference-Substring n xs a b) ∙ w) in
+    let ws = both (all (map well_item xs)) (maybe_well (option_map grade a) && maybe_well (option_map grade b))
+    (sym (well_reference-Substring n xs a b) ∙ w) in
     let vs = both (maybe_well (option_map grade a)) (maybe_well (option_map grade b)) ws.1 in
     let range = maybe (option_map expression a) ++ punctuated mark.Colon (maybe (option_map expression b)) in
     ap (λ t. run (machine.Waits s) (t ++ rest)) (reference-Substring n xs a b)
-    ∙ ap (λ t. run (machine.Waits s) (terminal.Name n ∷ t)) (append_assoc (in_brackets (commas (map item xs))) (in_brackets range) rest)
+    ∙ ap (λ t. run (machine.Waits s) (terminal.Name n ∷ t))
+    (append_assoc (in_brackets (commas (map item xs))) (in_brackets range) rest)
     ∙ items_read n xs h ws.0 s (in_brackets range ++ rest)
     ∙ open_items s n xs ((range ++ punctuated mark.Close []) ++ rest)
     ∙ ap (run (fresh (kind.Part n xs) [] s)) (range_text a b rest)
-    ∙ field_reads None (spread.Triplet a b None) tt refl (triplet_spread a b None ha hb tt vs.0 vs.1 refl) (kind.Part n xs) [] s (terminal.Punctuation mark.Close ∷ rest) refl
+    ∙ field_reads None (spread.Triplet a b None) tt refl (triplet_spread a b None ha hb tt vs.0 vs.1 refl) (kind.Part n xs) [] s
+    (terminal.Punctuation mark.Close ∷ rest) refl
     ∙ closer_behind (kind.Part n xs) s mark.Close rest refl [] (field None (spread.Triplet a b None))
 
 -- ---- implied DO
@@ -381,8 +434,10 @@ index_again n x hx w =
     field_reads (Some (e.Reference (r.Whole n))) (spread.One (v.One x)) (on_reference (r.Whole n) (on_whole n))
     (ap (λ (g : Grade). g.1) (grade-Reference (r.Whole n)) ∙ well_reference-Whole n) (one_spread x hx w)
 
-pub index_text : (n : Word) (x : Expression) → field_text (index_field n x) ≡ terminal.Name n ∷ punctuated mark.Assign (expression x)
-index_text n x = ap (λ t. (t ++ punctuated mark.Assign []) ++ value (v.One x)) (expression-Reference (r.Whole n) ∙ reference-Whole n)
+pub index_text : (n : Word) (x : Expression) → field_text (index_field n x) ≡ terminal.Name n
+    ∷ punctuated mark.Assign (expression x)
+index_text n x = ap (λ t. (t ++ punctuated mark.Assign []) ++ value (v.One x))
+    (expression-Reference (r.Whole n) ∙ reference-Whole n)
     ∙ ap (λ t. terminal.Name n ∷ punctuated mark.Assign t) (value-One x)
 
 values_again : (x : Value) (vs : List Value) → values_of (onto (map value_field (x ∷ vs)) []) ≡ Some (x ∷ vs)
@@ -390,15 +445,19 @@ values_again x vs = ap (option_and_then filled) (collected_all value_of value_fi
 
 looped_again : (x : Value) (vs : List Value) (n : Word) (a b : Expression) →
     implied (expression_field b ∷ index_field n a ∷ onto (map value_field (x ∷ vs)) []) ≡ Some (v.ImpliedDo (x ∷ vs) n a b None)
-unfolding denote.Hole.Carrier.roll denote.Hole.Carrier.out roll-Expression out-Expression roll-Reference out-Reference roll-Value out-Value
+unfolding denote.Hole.Carrier.roll denote.Hole.Carrier.out roll-Expression out-Expression roll-Reference out-Reference roll-Value
+    out-Value
 looped_again x vs n a b = ap (option_and_then (λ values. Some (v.ImpliedDo values n a b None))) (values_again x vs)
 
 stepped_again : (x : Value) (vs : List Value) (n : Word) (a b c : Expression) →
-    implied (expression_field c ∷ expression_field b ∷ index_field n a ∷ onto (map value_field (x ∷ vs)) []) ≡ Some (v.ImpliedDo (x ∷ vs) n a b (Some c))
-unfolding denote.Hole.Carrier.roll denote.Hole.Carrier.out roll-Expression out-Expression roll-Reference out-Reference roll-Value out-Value
+    implied (expression_field c ∷ expression_field b ∷ index_field n a ∷ onto (map value_field (x ∷ vs)) [])
+    ≡ Some (v.ImpliedDo (x ∷ vs) n a b (Some c))
+unfolding denote.Hole.Carrier.roll denote.Hole.Carrier.out roll-Expression out-Expression roll-Reference out-Reference roll-Value
+    out-Value
 stepped_again x vs n a b c = ap (option_and_then (λ values. Some (v.ImpliedDo values n a b (Some c)))) (values_again x vs)
 
-did_behind : (s : Stack) (vs : List Value) (n : Word) (a b : Expression) (c : Option Expression) → machine.Did s (v.ImpliedDo vs n a b c) ≡ behind s (Some (v.ImpliedDo vs n a b c))
+did_behind : (s : Stack) (vs : List Value) (n : Word) (a b : Expression) (c : Option Expression) →
+    machine.Did s (v.ImpliedDo vs n a b c) ≡ behind s (Some (v.ImpliedDo vs n a b c))
 unfolding denote.Hole.Carrier.roll denote.Hole.Carrier.out roll-Value out-Value
 did_behind s vs n a b None = refl
 did_behind s vs n a b (Some c) = refl
@@ -406,7 +465,8 @@ did_behind s vs n a b (Some c) = refl
 -- the last value and the step of an implied DO, and its closing bracket
 bounds_read : (x : Value) (vs : List Value) (n : Word) (a b : Expression) (c : Option Expression) → Again b → Maybe Again c →
     well b ≡ true → maybe_well (option_map grade c) ≡ true → (s : Stack) (rest : Text) →
-    run (fresh kind.Plain (index_field n a ∷ onto (map value_field (x ∷ vs)) []) s) (expression b ++ (maybe_behind mark.Comma (option_map expression c) ++ terminal.Punctuation mark.Close ∷ rest))
+    run (fresh kind.Plain (index_field n a ∷ onto (map value_field (x ∷ vs)) []) s)
+    (expression b ++ (maybe_behind mark.Comma (option_map expression c) ++ terminal.Punctuation mark.Close ∷ rest))
     ≡ run (machine.Did s (v.ImpliedDo (x ∷ vs) n a b c)) rest
 bounds_read x vs n a b None hb hc wb wc s rest =
     let done = index_field n a ∷ onto (map value_field (x ∷ vs)) [] in
@@ -420,26 +480,36 @@ bounds_read x vs n a b (Some c) hb hc wb wc s rest =
     ap (λ t. run (fresh kind.Plain done s) (t ++ terminal.Punctuation mark.Comma ∷ behind_last)) (sym (value-One b))
     ∙ expression_again b hb wb kind.Plain done s (terminal.Punctuation mark.Comma ∷ behind_last) refl
     ∙ end_behind kind.Plain done s (expression_field b) mark.Comma behind_last refl
-    ∙ ap (λ t. run (fresh kind.Plain (expression_field b ∷ done) s) (t ++ terminal.Punctuation mark.Close ∷ rest)) (sym (value-One c))
+    ∙ ap (λ t. run (fresh kind.Plain (expression_field b ∷ done) s) (t ++ terminal.Punctuation mark.Close ∷ rest))
+    (sym (value-One c))
     ∙ expression_again c hc wc kind.Plain (expression_field b ∷ done) s (terminal.Punctuation mark.Close ∷ rest) refl
     ∙ closer_behind kind.Plain s mark.Close rest refl (expression_field b ∷ done) (expression_field c)
     ∙ ap (λ o. run (did s o) rest) (stepped_again x vs n a b c)
 
 implied_text : (values : Text) (n : Word) (first last step rest : Text) →
-    in_brackets (values ++ punctuated mark.Comma (terminal.Name n ∷ punctuated mark.Assign (first ++ punctuated mark.Comma (last ++ step)))) ++ rest
-    ≡ terminal.Punctuation mark.Open ∷ (values ++ terminal.Punctuation mark.Comma ∷ ((terminal.Name n ∷ punctuated mark.Assign first)
+    in_brackets
+    (values ++ punctuated mark.Comma (terminal.Name n ∷ punctuated mark.Assign (first ++ punctuated mark.Comma (last ++ step))))
+    ++ rest
+    ≡ terminal.Punctuation mark.Open
+    ∷ (values ++ terminal.Punctuation mark.Comma ∷ ((terminal.Name n ∷ punctuated mark.Assign first)
     ++ terminal.Punctuation mark.Comma ∷ (last ++ (step ++ terminal.Punctuation mark.Close ∷ rest))))
 implied_text values n first last step rest = ap (λ t. terminal.Punctuation mark.Open ∷ t) (simp append_assoc)
 
-implied_read : (x : Value) (vs : List Value) (n : Word) (a b : Expression) (c : Option Expression) → Every ValueAgain (x ∷ vs) → Again a → Again b → Maybe Again c →
-    all (map well_value (x ∷ vs)) ≡ true → well a ≡ true → well b ≡ true → maybe_well (option_map grade c) ≡ true → (s : Stack) (rest : Text) →
+implied_read : (x : Value) (vs : List Value) (n : Word) (a b : Expression) (c : Option Expression) → Every ValueAgain (x ∷ vs) →
+    Again a → Again b → Maybe Again c →
+    all (map well_value (x ∷ vs)) ≡ true → well a ≡ true → well b ≡ true → maybe_well (option_map grade c) ≡ true →
+    (s : Stack) (rest : Text) →
     run (machine.Waits s) (value (v.ImpliedDo (x ∷ vs) n a b c) ++ rest) ≡ run (machine.Did s (v.ImpliedDo (x ∷ vs) n a b c)) rest
 implied_read x vs n a b c h ha hb hc w wa wb wc s rest =
     let done = onto (map value_field (x ∷ vs)) [] in
-    let behind_first = expression b ++ (maybe_behind mark.Comma (option_map expression c) ++ terminal.Punctuation mark.Close ∷ rest) in
-    let behind_values = (terminal.Name n ∷ punctuated mark.Assign (expression a)) ++ terminal.Punctuation mark.Comma ∷ behind_first in
+    let behind_first = expression b ++ (maybe_behind mark.Comma (option_map expression c) ++ terminal.Punctuation mark.Close ∷ rest)
+    in
+    let behind_values = (terminal.Name n ∷ punctuated mark.Assign (expression a)) ++ terminal.Punctuation mark.Comma
+    ∷ behind_first in
     ap (λ t. run (machine.Waits s) (t ++ rest)) (value-ImpliedDo (x ∷ vs) n a b c)
-    ∙ ap (run (machine.Waits s)) (implied_text (commas (map value (x ∷ vs))) n (expression a) (expression b) (maybe_behind mark.Comma (option_map expression c)) rest)
+    ∙ ap (run (machine.Waits s))
+    (implied_text (commas (map value (x ∷ vs))) n (expression a) (expression b)
+    (maybe_behind mark.Comma (option_map expression c)) rest)
     ∙ comma_list value_field value (λ w. refl) x vs (every_value (x ∷ vs) h w) kind.Plain s behind_values []
     ∙ ap (λ t. run (fresh kind.Plain done s) (t ++ terminal.Punctuation mark.Comma ∷ behind_first)) (sym (index_text n a))
     ∙ index_again n a ha wa kind.Plain done s (terminal.Punctuation mark.Comma ∷ behind_first) refl
@@ -449,10 +519,12 @@ implied_read x vs n a b c h ha hb hc w wa wb wc s rest =
 empty_values : (n : Word) (a b : Expression) (c : Option Expression) → well_value (v.ImpliedDo [] n a b c) ≡ true → ⊥
 empty_values n a b c w = let q = sym (well_value-ImpliedDo [] n a b c) ∙ w in absurd (cc)
 
-on_implied : (vs : List Value) (n : Word) (a b : Expression) (c : Option Expression) → Every ValueAgain vs → Again a → Again b → Maybe Again c → ValueAgain (v.ImpliedDo vs n a b c)
+on_implied : (vs : List Value) (n : Word) (a b : Expression) (c : Option Expression) → Every ValueAgain vs → Again a → Again b →
+    Maybe Again c → ValueAgain (v.ImpliedDo vs n a b c)
 on_implied [] n a b c h ha hb hc k d left g s rest w l = absurd (empty_values n a b c w)
 on_implied (x ∷ vs) n a b c h ha hb hc k d left g s rest w l =
-    let ws = both (all (map well_value (x ∷ vs))) (well a && (well b && maybe_well (option_map grade c))) (sym (well_value-ImpliedDo (x ∷ vs) n a b c) ∙ w) in
+    let ws = both (all (map well_value (x ∷ vs))) (well a && (well b && maybe_well (option_map grade c)))
+    (sym (well_value-ImpliedDo (x ∷ vs) n a b c) ∙ w) in
     let us = both (well a) (well b && maybe_well (option_map grade c)) ws.1 in
     let ts = both (well b) (maybe_well (option_map grade c)) us.1 in
     implied_read x vs n a b c h ha hb hc ws.0 us.0 ts.0 ts.1 (pending.Open k d left g ∷ s) rest

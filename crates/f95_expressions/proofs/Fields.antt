@@ -33,7 +33,8 @@ use Rattle.f95_expressions.specs.declared.pending.Pending.TheVariants as pending
 use Rattle.f95_expressions.specs.declared.pending.Machine.{Machine}
 use Rattle.f95_expressions.specs.declared.pending.Machine.TheVariants as machine
 use Rattle.f95_expressions.specs.Fields.{field_text}
-use Rattle.f95_expressions.specs.Machine.{Stack, lone, field, fresh, made, is_closed_by, separated_in, parted, closed, step, run, ended, row_of, item_of, value_of, spread_of, field_of}
+use Rattle.f95_expressions.specs.Machine.{Stack, lone, field, fresh, made, is_closed_by, separated_in, parted, closed, step, run}
+use Rattle.f95_expressions.specs.Machine.{ended, row_of, item_of, value_of, spread_of, field_of}
 
 -- the machine behind a value
 abbrev behind_lone : Stack → Value → Option Expression → Machine
@@ -70,8 +71,10 @@ parts mark.Open = false
 parts mark.OpenArray = false
 parts _ = true
 
-step_one : (k : Bracket) (d : List Field) (left : Option Expression) (g : Stage) (s : Stack) (p : Punctuation) (x : Expression) → parts p ≡ true →
-    step (behind (pending.Open k d left g ∷ s) (Some (v.One x))) (terminal.Punctuation p) ≡ separated_in k d left g s (Some (v.One x)) p
+step_one : (k : Bracket) (d : List Field) (left : Option Expression) (g : Stage) (s : Stack) (p : Punctuation) (x : Expression) →
+    parts p ≡ true →
+    step (behind (pending.Open k d left g ∷ s) (Some (v.One x))) (terminal.Punctuation p)
+    ≡ separated_in k d left g s (Some (v.One x)) p
 unfolding roll-Value denote.Hole.Carrier.roll out-Value denote.Hole.Carrier.out
 step_one k d left g s mark.Open x h = absurd (cc)
 step_one k d left g s mark.OpenArray x h = absurd (cc)
@@ -92,11 +95,13 @@ step_did k d left g s p vs n a b None h = refl
 step_did k d left g s p vs n a b (Some c) h = refl
 
 -- a separator behind what was read last
-pub step_behind : (k : Bracket) (d : List Field) (left : Option Expression) (g : Stage) (s : Stack) (p : Punctuation) (last : Option Value) → parts p ≡ true →
+pub step_behind : (k : Bracket) (d : List Field) (left : Option Expression) (g : Stage) (s : Stack) (p : Punctuation)
+    (last : Option Value) → parts p ≡ true →
     step (behind (pending.Open k d left g ∷ s) last) (terminal.Punctuation p) ≡ separated_in k d left g s last p
 step_behind k d left g s p None h = step_none k d left g s p h
 step_behind k d left g s p (Some w) h =
-    value_cases (λ w. step (behind (pending.Open k d left g ∷ s) (Some w)) (terminal.Punctuation p) ≡ separated_in k d left g s (Some w) p)
+    value_cases
+    (λ w. step (behind (pending.Open k d left g ∷ s) (Some w)) (terminal.Punctuation p) ≡ separated_in k d left g s (Some w) p)
     (λ x. step_one k d left g s p x h) (λ vs n a b c. step_did k d left g s p vs n a b c h) w
 
 ended_one : (k : Bracket) (d : List Field) (left : Option Expression) (g : Stage) (s : Stack) (x : Expression) →
@@ -106,7 +111,8 @@ ended_one k d left g s x = refl
 
 ended_did : (k : Bracket) (d : List Field) (left : Option Expression) (g : Stage) (s : Stack)
     (vs : List Value) (n : Word) (a b : Expression) (c : Option Expression) →
-    ended (behind (pending.Open k d left g ∷ s) (Some (v.ImpliedDo vs n a b c))) ≡ row_of (pending.Open k d left g ∷ s) (Some (v.ImpliedDo vs n a b c))
+    ended (behind (pending.Open k d left g ∷ s) (Some (v.ImpliedDo vs n a b c)))
+    ≡ row_of (pending.Open k d left g ∷ s) (Some (v.ImpliedDo vs n a b c))
 unfolding roll-Value denote.Hole.Carrier.roll out-Value denote.Hole.Carrier.out
 ended_did k d left g s vs n a b None = refl
 ended_did k d left g s vs n a b (Some c) = refl
@@ -133,7 +139,8 @@ field_again f = ap (option_map (field f.left)) (spread_again f.spread)
 
 -- ---- steps behind a whole field
 
-run_did : (s : Stack) (vs : List Value) (n : Word) (a b : Expression) (c : Option Expression) (t : Terminal) (rest : List Terminal) →
+run_did : (s : Stack) (vs : List Value) (n : Word) (a b : Expression) (c : Option Expression) (t : Terminal) (rest : List Terminal)
+    →
     run (behind s (Some (v.ImpliedDo vs n a b c))) (t ∷ rest) ≡ run (step (behind s (Some (v.ImpliedDo vs n a b c))) t) rest
 unfolding roll-Value denote.Hole.Carrier.roll out-Value denote.Hole.Carrier.out
 run_did s vs n a b None t rest = refl
@@ -144,7 +151,8 @@ run_one : (s : Stack) (x : Expression) (t : Terminal) (rest : List Terminal) →
 unfolding roll-Value denote.Hole.Carrier.roll out-Value denote.Hole.Carrier.out
 run_one s x t rest = refl
 
-pub run_behind : (s : Stack) (last : Option Value) (t : Terminal) (rest : List Terminal) → run (behind s last) (t ∷ rest) ≡ run (step (behind s last) t) rest
+pub run_behind : (s : Stack) (last : Option Value) (t : Terminal) (rest : List Terminal) → run (behind s last) (t ∷ rest)
+    ≡ run (step (behind s last) t) rest
 run_behind s None t rest = refl
 run_behind s (Some w) t rest = value_cases (λ w. run (behind s (Some w)) (t ∷ rest) ≡ run (step (behind s (Some w)) t) rest)
     (λ x. run_one s x t rest) (λ vs n a b c. run_did s vs n a b c t rest) w
@@ -163,11 +171,13 @@ is_end mark.Close = true
 is_end mark.CloseArray = true
 is_end _ = false
 
-part_field : (k : Bracket) (d : List Field) (f : Field) (g : Stage) (last : Option Value) (s : Stack) (p : Punctuation) → is_end p ≡ true →
+part_field : (k : Bracket) (d : List Field) (f : Field) (g : Stage) (last : Option Value) (s : Stack) (p : Punctuation) →
+    is_end p ≡ true →
     field_of f.left g last ≡ Some f → separated_in k d f.left g s last p ≡ parted_by k d f s p
 part_field k d f g last s mark.Comma h is = ap (parted k d s) is
 part_field k d f g last s mark.Close h is = ap (λ o. if is_closed_by k mark.Close then closed k d s o else machine.Stops) is
-part_field k d f g last s mark.CloseArray h is = ap (λ o. if is_closed_by k mark.CloseArray then closed k d s o else machine.Stops) is
+part_field k d f g last s mark.CloseArray h is = ap (λ o. if is_closed_by k mark.CloseArray then closed k d s o else machine.Stops)
+    is
 part_field k d f g last s mark.Open h is = absurd (cc)
 part_field k d f g last s p h is = absurd (cc)
 
@@ -212,7 +222,8 @@ unfolding roll-Value denote.Hole.Carrier.roll out-Value denote.Hole.Carrier.out 
 back_plain x = refl
 
 back_keyword : (n : Word) (x : Expression) → item_of (item_field (i.Keyword n x)) ≡ Some (i.Keyword n x)
-unfolding roll-Value denote.Hole.Carrier.roll out-Value denote.Hole.Carrier.out roll-Item out-Item roll-Expression out-Expression roll-Reference out-Reference
+unfolding roll-Value denote.Hole.Carrier.roll out-Value denote.Hole.Carrier.out roll-Item out-Item roll-Expression out-Expression
+    roll-Reference out-Reference
 back_keyword n x = refl
 
 back_triplet : (a b c : Option Expression) → item_of (item_field (i.Triplet a b c)) ≡ Some (i.Triplet a b c)
@@ -227,7 +238,8 @@ text_plain x = value-One x ∙ sym (item-Plain x)
 
 text_keyword : (n : Word) (x : Expression) → field_text (item_field (i.Keyword n x)) ≡ item (i.Keyword n x)
 unfolding denote.Hole.Carrier.roll denote.Hole.Carrier.out roll-Item out-Item
-text_keyword n x = ap (λ t. t ++ punctuated mark.Assign [] ++ value (v.One x)) (expression-Reference (r.Whole n) ∙ reference-Whole n)
+text_keyword n x = ap (λ t. t ++ punctuated mark.Assign [] ++ value (v.One x))
+    (expression-Reference (r.Whole n) ∙ reference-Whole n)
     ∙ ap (λ t. terminal.Name n ∷ punctuated mark.Assign t) (value-One x) ∙ sym (item-Keyword n x)
 
 text_triplet : (a b c : Option Expression) → field_text (item_field (i.Triplet a b c)) ≡ item (i.Triplet a b c)

@@ -1,5 +1,6 @@
 -- What `bracket` and `row` find: exactly the well-formed fields that spell what was given.
-use Rattle.std.proofs.Common.{◌≡◌, Bool, true, false, ◌&&◌, List, [], ◌∷◌, ◌++◌, Option, Some, None, sym, ◌∙◌, ap, refl, append_assoc, append-nil}
+use Rattle.std.proofs.Common.{◌≡◌, Bool, true, false, ◌&&◌, List, [], ◌∷◌, ◌++◌, Option, Some, None, sym, ◌∙◌, ap, refl}
+use Rattle.std.proofs.Common.{append_assoc, append-nil}
 use Rattle.std.specs.Prelude.{option_map, option_and_then}
 use Rattle.f95_tree.specs.declared.expression.Expression.{Expression}
 use Rattle.f95_tree.specs.declared.terminal.Terminal.{Terminal}
@@ -19,7 +20,8 @@ use Rattle.f95_expressions.specs.Fields.{field_text, done_text, fields_text, wel
 use Rattle.f95_expressions.specs.Machine.{Stack, Found, fresh, run, closed_found, row_found, bracket, row}
 use Rattle.f95_expressions.proofs.Lists.{both}
 use Rattle.f95_expressions.proofs.Fields.{behind_field, end_behind, row_behind}
-use Rattle.f95_expressions.proofs.Again.{Again, SpreadAgain, FieldAgain, again, value_again, value_spread, triplet_spread, field_reads, closer_behind}
+use Rattle.f95_expressions.proofs.Again.{Again, SpreadAgain, FieldAgain, again, value_again, value_spread, triplet_spread}
+use Rattle.f95_expressions.proofs.Again.{field_reads, closer_behind}
 use Rattle.f95_expressions.proofs.Read.{chained}
 use Rattle.f95_expressions.proofs.Sound.{Ends, run_sound}
 
@@ -41,7 +43,8 @@ each_field f w =
     let ws = both (maybe_well (option_map grade f.left)) (well_spread f.spread) w in
     field_reads f.left f.spread (maybe_reads f.left) ws.0 (spread_reads f.spread ws.1)
 
-done_again : (k : Bracket) (s : Stack) (d : List Field) (rest : Text) → well_fields d ≡ true → run (fresh k [] s) (done_text d ++ rest) ≡ run (fresh k d s) rest
+done_again : (k : Bracket) (s : Stack) (d : List Field) (rest : Text) → well_fields d ≡ true →
+    run (fresh k [] s) (done_text d ++ rest) ≡ run (fresh k d s) rest
 done_again k s [] rest w = refl
 done_again k s (f ∷ d) rest w =
     let ws = both (well_fields d) (well_field f) w in
@@ -55,7 +58,8 @@ closed_rest : (fs : List Field) (rest : Text) → run (machine.Closed fs) rest �
 closed_rest fs [] = refl
 closed_rest fs (t ∷ ts) = refl
 
-pub bracket_again : (f : Field) (d : List Field) (rest : Text) → well_fields (f ∷ d) ≡ true → bracket (fields_text (f ∷ d) ++ punctuated mark.Close rest) ≡ Some (f ∷ d, rest)
+pub bracket_again : (f : Field) (d : List Field) (rest : Text) → well_fields (f ∷ d) ≡ true →
+    bracket (fields_text (f ∷ d) ++ punctuated mark.Close rest) ≡ Some (f ∷ d, rest)
 bracket_again f d rest w =
     let ws = both (well_fields d) (well_field f) w in
     ap (option_and_then closed_found) (
@@ -82,12 +86,15 @@ row_is : (f : Found) (fs : List Field) → row_found f ≡ Some fs → f ≡ (fs
 row_is (gs, None) fs h = let q : gs ≡ fs = cc in ap (λ (gs : List Field). (gs, None)) q
 row_is (gs, Some more) fs h = absurd (cc)
 
-pub bracket_sound : (ts : Text) (fs : List Field) (rest : Text) → bracket ts ≡ Some (fs, rest) → (fields_text fs ++ punctuated mark.Close rest ≡ ts) × (well_fields fs ≡ true)
+pub bracket_sound : (ts : Text) (fs : List Field) (rest : Text) → bracket ts ≡ Some (fs, rest) →
+    (fields_text fs ++ punctuated mark.Close rest ≡ ts) × (well_fields fs ≡ true)
 bracket_sound ts fs rest h = chained closed_found (run (fresh kind.Alone [] []) ts) (fs, rest) h (λ f hf is.
-    run_sound ts (fresh kind.Alone [] []) [] (fs, Some rest) (refl, (record { bracket_well = refl; done_well = refl; left_well = refl; stage_well = refl }, tt))
+    run_sound ts (fresh kind.Alone [] []) [] (fs, Some rest)
+    (refl, (record { bracket_well = refl; done_well = refl; left_well = refl; stage_well = refl }, tt))
     (hf ∙ ap Some (closed_is f fs rest is)))
 
 pub row_sound : (ts : Text) (fs : List Field) → row ts ≡ Some fs → (fields_text fs ≡ ts) × (well_fields fs ≡ true)
 row_sound ts fs h = chained row_found (run (fresh kind.Row [] []) ts) fs h (λ f hf is.
-    run_sound ts (fresh kind.Row [] []) [] (fs, None) (refl, (record { bracket_well = refl; done_well = refl; left_well = refl; stage_well = refl }, tt))
+    run_sound ts (fresh kind.Row [] []) [] (fs, None)
+    (refl, (record { bracket_well = refl; done_well = refl; left_well = refl; stage_well = refl }, tt))
     (hf ∙ ap Some (row_is f fs is)))

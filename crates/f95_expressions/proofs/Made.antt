@@ -1,5 +1,6 @@
 -- What closed brackets make of their fields is spelled as they are, and well formed.
-use Rattle.std.proofs.Common.{◌≡◌, ℕ, ◌<◌, ◌≤◌, Bool, true, false, ◌&&◌, nat_le, List, [], ◌∷◌, ◌++◌, map, Option, Some, None, sym, ◌∙◌, ap, subst, refl, append_assoc, append-nil, arith}
+use Rattle.std.proofs.Common.{◌≡◌, ℕ, ◌<◌, ◌≤◌, Bool, true, false, ◌&&◌, nat_le, List, [], ◌∷◌, ◌++◌, map, Option, Some, None, sym}
+use Rattle.std.proofs.Common.{◌∙◌, ap, subst, refl, append_assoc, append-nil, arith}
 use Rattle.std.specs.Prelude.{option_map, option_and_then, if◌then◌else◌}
 use Rattle.std.proofs.lemmas.Bool.{leb-true, le-leb}
 use Rattle.f95_tree.specs.declared.expression.Expression.{Expression, out-Expression}
@@ -20,11 +21,18 @@ use Rattle.f95_tree.specs.declared.terminal.Sign.TheVariants as sign
 use Rattle.f95_tree.specs.declared.terminal.Punctuation.{Punctuation}
 use Rattle.f95_tree.specs.declared.terminal.Punctuation.TheVariants as mark
 use Rattle.f95_tree.specs.Levels.{level, left_of, right_of, sign_level, under_sign}
-use Rattle.f95_tree.specs.Spelling.{Text, punctuated, behind_commas, commas, in_brackets, maybe, maybe_behind, sign_terminal, expression, item, reference, value}
+use Rattle.f95_tree.specs.Spelling.{Text, punctuated, behind_commas, commas, in_brackets, maybe, maybe_behind, sign_terminal}
+use Rattle.f95_tree.specs.Spelling.{expression, item, reference, value}
 use Rattle.f95_tree.specs.Grades.{Grade, all, some, maybe_well, grade, well, well_item, well_reference, well_value}
 use Rattle.f95_tree.specs.Forms.{Word}
-use Rattle.f95_tree.proofs.Nodes.{expression-Literal, expression-Reference, expression-Bracketed, expression-Constructor, expression-Signed, expression-Binary, item-Plain, item-Keyword, item-Triplet, reference-Whole, reference-Items, reference-Substring, value-One, value-ImpliedDo, grade-Literal, grade-Reference, grade-Bracketed, grade-Constructor, grade-Signed, grade-Binary, well_item-Plain, well_item-Keyword, well_item-Triplet, well_reference-Whole, well_reference-Items, well_reference-Substring, well_value-One, well_value-ImpliedDo}
-use Rattle.f95_tree.proofs.Views.{seen-Literal, seen-Reference, seen-Bracketed, seen-Constructor, seen-Signed, seen-Binary, seen-Whole, seen-Items, seen-Substring}
+use Rattle.f95_tree.proofs.Nodes.{expression-Literal, expression-Reference, expression-Bracketed, expression-Constructor}
+use Rattle.f95_tree.proofs.Nodes.{expression-Signed, expression-Binary, item-Plain, item-Keyword, item-Triplet, reference-Whole}
+use Rattle.f95_tree.proofs.Nodes.{reference-Items, reference-Substring, value-One, value-ImpliedDo, grade-Literal, grade-Reference}
+use Rattle.f95_tree.proofs.Nodes.{grade-Bracketed, grade-Constructor, grade-Signed, grade-Binary, well_item-Plain}
+use Rattle.f95_tree.proofs.Nodes.{well_item-Keyword, well_item-Triplet, well_reference-Whole, well_reference-Items}
+use Rattle.f95_tree.proofs.Nodes.{well_reference-Substring, well_value-One, well_value-ImpliedDo}
+use Rattle.f95_tree.proofs.Views.{seen-Literal, seen-Reference, seen-Bracketed, seen-Constructor, seen-Signed, seen-Binary}
+use Rattle.f95_tree.proofs.Views.{seen-Whole, seen-Items, seen-Substring}
 use Rattle.f95_tree.proofs.Induction.{Expressions, expression_cases, reference_cases, item_cases}
 use Rattle.f95_expressions.specs.declared.pending.Field.{Field}
 use Rattle.f95_expressions.specs.declared.pending.Spread.{Spread}
@@ -37,13 +45,24 @@ use Rattle.f95_expressions.specs.declared.pending.Pending.TheVariants as pending
 use Rattle.f95_expressions.specs.declared.pending.Held.{Held}
 use Rattle.f95_expressions.specs.declared.pending.Machine.{Machine}
 use Rattle.f95_expressions.specs.declared.pending.Machine.TheVariants as machine
-use Rattle.f95_expressions.specs.Fields.{spread_text, left_text, field_text, done_text, fields_text, well_spread, well_field, well_fields}
-use Rattle.f95_expressions.specs.Machine.{Stack, Found, ReferenceLayer, ExpressionLayer, asked, held, reduce, operated, signed, lone, plain, whole, field, fresh, parted, closed, holds, did, with_stage, with_left, made, made_plain, made_part, part_of, alone, is_closed_by, separated, separated_in, first_mark, first_operator, first_step, opened, opened_reference, ended_by, next_mark, next_step, did_step, step, run, ended, ended_held, row_of, item_of, items_of, within, is_nothing, is_nothing_from, value_of, values_of, filled, implied, looped, looped_with_step, expression_of, index_of, first_in, maybe_expression_of, has_left, spread_of, coloned, assigned, field_of, collected}
+use Rattle.f95_expressions.specs.Fields.{spread_text, left_text, field_text, done_text, fields_text, well_spread, well_field}
+use Rattle.f95_expressions.specs.Fields.{well_fields}
+use Rattle.f95_expressions.specs.Machine.{Stack, Found, ReferenceLayer, ExpressionLayer, asked, held, reduce, operated, signed}
+use Rattle.f95_expressions.specs.Machine.{lone, plain, whole, field, fresh, parted, closed, holds, did, with_stage, with_left, made}
+use Rattle.f95_expressions.specs.Machine.{made_plain, made_part, part_of, alone, is_closed_by, separated, separated_in, first_mark}
+use Rattle.f95_expressions.specs.Machine.{first_operator, first_step, opened, opened_reference, ended_by, next_mark, next_step}
+use Rattle.f95_expressions.specs.Machine.{did_step, step, run, ended, ended_held, row_of, item_of, items_of, within, is_nothing}
+use Rattle.f95_expressions.specs.Machine.{is_nothing_from, value_of, values_of, filled, implied, looped, looped_with_step}
+use Rattle.f95_expressions.specs.Machine.{expression_of, index_of, first_in, maybe_expression_of, has_left, spread_of, coloned}
+use Rattle.f95_expressions.specs.Machine.{assigned, field_of, collected}
 use Rattle.f95_expressions.proofs.Lists.{both, joined, by_test, onto}
 use Rattle.f95_expressions.proofs.Fields.{value_field, expression_field, item_field, item_text, item_field_at}
 use Rattle.f95_expressions.proofs.Again.{index_field, index_text}
-use Rattle.f95_expressions.proofs.State.{opening, stage_text, stack_text, well_bracket, well_stage, Opened, Sits, Holding, Doing, Good}
-use Rattle.f95_expressions.proofs.Read.{mapped, chained, lone_sound, whole_sound, value_sound, item_sound, expression_sound, all_collected, list_text, onto_well, item-Plain_field, item-Keyword_field, item-Triplet_field}
+use Rattle.f95_expressions.proofs.State.{opening, stage_text, stack_text, well_bracket, well_stage, Opened, Sits, Holding, Doing}
+use Rattle.f95_expressions.proofs.State.{Good}
+use Rattle.f95_expressions.proofs.Read.{mapped, chained, lone_sound, whole_sound, value_sound, item_sound, expression_sound}
+use Rattle.f95_expressions.proofs.Read.{all_collected, list_text, onto_well, item-Plain_field, item-Keyword_field}
+use Rattle.f95_expressions.proofs.Read.{item-Triplet_field}
 
 -- ---- values
 
@@ -66,19 +85,23 @@ pub values_well : (fs : List Field) (vs : List Value) → Valued vs fs → well_
 values_well fs vs v h = (onto_well value_field well_value (λ w. refl) vs [] (sym (ap well_fields v.fields) ∙ h)).0
 
 -- fields, each with its comma
-done_values : (fs : List Field) (vs : List Value) → values_of fs ≡ Some vs → done_text fs ≡ commas (map value vs) ++ punctuated mark.Comma []
+done_values : (fs : List Field) (vs : List Value) → values_of fs ≡ Some vs → done_text fs ≡ commas (map value vs)
+    ++ punctuated mark.Comma []
 done_values [] vs h = absurd (cc)
 done_values (f ∷ fs) vs h =
-    sym (append_assoc (done_text fs) (field_text f) (punctuated mark.Comma [])) ∙ ap (λ t. t ++ punctuated mark.Comma []) (values_text (f ∷ fs) vs (values_sound (f ∷ fs) vs h))
+    sym (append_assoc (done_text fs) (field_text f) (punctuated mark.Comma []))
+    ∙ ap (λ t. t ++ punctuated mark.Comma []) (values_text (f ∷ fs) vs (values_sound (f ∷ fs) vs h))
 
 -- ---- an implied DO
 
-index_sound : (left : Option Expression) (sp : Spread) (n : Word) (a : Expression) → option_and_then whole left ≡ Some n → first_in sp ≡ Some a → field left sp ≡ index_field n a
+index_sound : (left : Option Expression) (sp : Spread) (n : Word) (a : Expression) → option_and_then whole left ≡ Some n →
+    first_in sp ≡ Some a → field left sp ≡ index_field n a
 index_sound None sp n a hn ha = absurd (cc)
 index_sound (Some l) spread.Empty n a hn ha = absurd (cc)
 index_sound (Some l) (spread.Triplet x y z) n a hn ha = absurd (cc)
 index_sound (Some l) (spread.One w) n a hn ha =
-    ap (λ l. field (Some l) (spread.One w)) (whole_sound l n hn) ∙ ap (λ w. field (Some (e.Reference (r.Whole n))) (spread.One w)) (lone_sound w a ha)
+    ap (λ l. field (Some l) (spread.One w)) (whole_sound l n hn)
+    ∙ ap (λ w. field (Some (e.Reference (r.Whole n))) (spread.One w)) (lone_sound w a ha)
 
 -- the parts of an implied DO
 pub record Looped (fs : List Field) (index last : Field) (step : Option Field) (w : Value) : Type 0 where
@@ -93,15 +116,18 @@ pub record Looped (fs : List Field) (index last : Field) (step : Option Field) (
   pub stepped : maybe_expression_of step ≡ Some stride
   pub whole : v.ImpliedDo vs n first end stride ≡ w
 
-looped_sound : (fs : List Field) (index last : Field) (step : Option Field) (w : Value) → looped fs index last step ≡ Some w → Looped fs index last step w
+looped_sound : (fs : List Field) (index last : Field) (step : Option Field) (w : Value) → looped fs index last step ≡ Some w →
+    Looped fs index last step w
 looped_sound fs index last step w h =
-    chained (λ values. option_and_then (λ n. option_and_then (λ from. option_and_then (λ to. option_map (λ by. v.ImpliedDo values n from to by)
+    chained (λ values. option_and_then
+    (λ n. option_and_then (λ from. option_and_then (λ to. option_map (λ by. v.ImpliedDo values n from to by)
     (maybe_expression_of step)) (expression_of last)) (first_in index.spread)) (index_of index)) (values_of fs) w h (λ vs hvs h1.
     chained (λ n. option_and_then (λ from. option_and_then (λ to. option_map (λ by. v.ImpliedDo vs n from to by)
     (maybe_expression_of step)) (expression_of last)) (first_in index.spread)) (index_of index) w h1 (λ n hn h2.
     chained (λ from. option_and_then (λ to. option_map (λ by. v.ImpliedDo vs n from to by)
     (maybe_expression_of step)) (expression_of last)) (first_in index.spread) w h2 (λ from hfrom h3.
-    chained (λ to. option_map (λ by. v.ImpliedDo vs n from to by) (maybe_expression_of step)) (expression_of last) w h3 (λ to hto h4.
+    chained (λ to. option_map (λ by. v.ImpliedDo vs n from to by) (maybe_expression_of step)) (expression_of last) w h3
+    (λ to hto h4.
     mapped (λ by. v.ImpliedDo vs n from to by) (maybe_expression_of step) w h4 (λ by hby is.
     record {
       vs = vs;
@@ -139,15 +165,25 @@ step_sound (Some f) c h = mapped Some (expression_of f) c h (λ x hx is. subst (
 looped_text : (fs : List Field) (index last : Field) (step : Option Field) (w : Value) → Looped fs index last step w →
     in_brackets ((done_text fs ++ (field_text index ++ punctuated mark.Comma [])) ++ (field_text last ++ step_text step)) ≡ value w
 looped_text fs index last step w l =
-    ap (λ t. in_brackets ((t ++ (field_text index ++ punctuated mark.Comma [])) ++ (field_text last ++ step_text step))) (done_values fs l.vs l.values)
-    ∙ ap (λ t. in_brackets (((commas (map value l.vs) ++ punctuated mark.Comma []) ++ (t ++ punctuated mark.Comma [])) ++ (field_text last ++ step_text step))) (ap field_text l.indexed ∙ index_text l.n l.first)
-    ∙ ap (λ t. in_brackets (((commas (map value l.vs) ++ punctuated mark.Comma []) ++ ((terminal.Name l.n ∷ punctuated mark.Assign (expression l.first)) ++ punctuated mark.Comma [])) ++ (t ++ step_text step))) (ap field_text l.ended ∙ value-One l.end)
-    ∙ ap (λ t. in_brackets (((commas (map value l.vs) ++ punctuated mark.Comma []) ++ ((terminal.Name l.n ∷ punctuated mark.Assign (expression l.first)) ++ punctuated mark.Comma [])) ++ (expression l.end ++ t))) (step_sound step l.stride l.stepped).spelled
+    ap (λ t. in_brackets ((t ++ (field_text index ++ punctuated mark.Comma [])) ++ (field_text last ++ step_text step)))
+    (done_values fs l.vs l.values)
+    ∙ ap (λ t. in_brackets
+    (((commas (map value l.vs) ++ punctuated mark.Comma []) ++ (t ++ punctuated mark.Comma []))
+    ++ (field_text last ++ step_text step))) (ap field_text l.indexed ∙ index_text l.n l.first)
+    ∙ ap (λ t. in_brackets
+    (((commas (map value l.vs) ++ punctuated mark.Comma [])
+    ++ ((terminal.Name l.n ∷ punctuated mark.Assign (expression l.first)) ++ punctuated mark.Comma []))
+    ++ (t ++ step_text step))) (ap field_text l.ended ∙ value-One l.end)
+    ∙ ap (λ t. in_brackets
+    (((commas (map value l.vs) ++ punctuated mark.Comma [])
+    ++ ((terminal.Name l.n ∷ punctuated mark.Assign (expression l.first)) ++ punctuated mark.Comma []))
+    ++ (expression l.end ++ t))) (step_sound step l.stride l.stepped).spelled
     ∙ ap in_brackets (simp append_assoc)
     ∙ sym (value-ImpliedDo l.vs l.n l.first l.end l.stride) ∙ ap value l.whole
 
 first_well : (n : Word) (x : Expression) → well_field (index_field n x) ≡ true → well x ≡ true
-first_well n x h = sym (well_value-One x) ∙ (both (maybe_well (option_map grade (Some (e.Reference (r.Whole n))))) (well_value (v.One x)) h).1
+first_well n x h = sym (well_value-One x)
+    ∙ (both (maybe_well (option_map grade (Some (e.Reference (r.Whole n))))) (well_value (v.One x)) h).1
 
 looped_well : (fs : List Field) (index last : Field) (step : Option Field) (w : Value) → Looped fs index last step w →
     well_fields fs ≡ true → well_field index ≡ true → well_field last ≡ true → step_well step ≡ true → well_value w ≡ true
@@ -165,15 +201,21 @@ pub record Implied (fs : List Field) (w : Value) : Type 0 where
 
 looped_implied : (fs : List Field) (y z : Field) (w : Value) → Looped fs y z None w → Implied (z ∷ y ∷ fs) w
 looped_implied fs y z w l = record {
-  spelled = ap (λ t. in_brackets ((done_text fs ++ (field_text y ++ punctuated mark.Comma [])) ++ t)) (sym (append-nil (field_text z))) ∙ looped_text fs y z None w l;
-  kept = λ h. let hz = both (well_fields fs && well_field y) (well_field z) h in let hy = both (well_fields fs) (well_field y) hz.0 in
+  spelled = ap (λ t. in_brackets ((done_text fs ++ (field_text y ++ punctuated mark.Comma [])) ++ t))
+      (sym (append-nil (field_text z))) ∙ looped_text fs y z None w l;
+  kept = λ h. let hz = both (well_fields fs && well_field y) (well_field z) h in let hy =
+      both (well_fields fs) (well_field y) hz.0 in
       looped_well fs y z None w l hy.0 hy.1 hz.1 refl;
 }
 
 stepped_implied : (fs : List Field) (x y z : Field) (w : Value) → Looped fs x y (Some z) w → Implied (z ∷ y ∷ x ∷ fs) w
 stepped_implied fs x y z w l = record {
-  spelled = ap in_brackets (append_assoc (done_text fs ++ (field_text x ++ punctuated mark.Comma [])) (field_text y ++ punctuated mark.Comma []) (field_text z)
-      ∙ ap (λ t. (done_text fs ++ (field_text x ++ punctuated mark.Comma [])) ++ t) (append_assoc (field_text y) (punctuated mark.Comma []) (field_text z)))
+  spelled =
+      ap in_brackets
+      (append_assoc (done_text fs ++ (field_text x ++ punctuated mark.Comma [])) (field_text y ++ punctuated mark.Comma [])
+      (field_text z)
+      ∙ ap (λ t. (done_text fs ++ (field_text x ++ punctuated mark.Comma [])) ++ t)
+      (append_assoc (field_text y) (punctuated mark.Comma []) (field_text z)))
       ∙ looped_text fs x y (Some z) w l;
   kept = λ h. let hz = both ((well_fields fs && well_field x) && well_field y) (well_field z) h in
       let hy = both (well_fields fs && well_field x) (well_field y) hz.0 in let hx = both (well_fields fs) (well_field x) hy.0 in
@@ -197,7 +239,8 @@ pub well_item_field : (x : Item) → well_field (item_field x) ≡ well_item x
 well_item_field = item_cases (λ x. well_field (item_field x) ≡ well_item x)
     (λ x. ap well_field (item-Plain_field x) ∙ well_value-One x ∙ sym (well_item-Plain x))
     (λ n x. ap well_field (item-Keyword_field n x)
-    ∙ ap (λ b. b && well_value (v.One x)) (ap (λ (g : Grade). g.1) (grade-Reference (r.Whole n)) ∙ well_reference-Whole n) ∙ well_value-One x ∙ sym (well_item-Keyword n x))
+    ∙ ap (λ b. b && well_value (v.One x)) (ap (λ (g : Grade). g.1) (grade-Reference (r.Whole n)) ∙ well_reference-Whole n)
+    ∙ well_value-One x ∙ sym (well_item-Keyword n x))
     (λ a b c. ap well_field (item-Triplet_field a b c) ∙ sym (well_item-Triplet a b c))
 
 nothing_text : (left : Option Expression) (sp : Spread) → is_nothing_from left sp ≡ true → left_text left ++ spread_text sp ≡ []
@@ -244,32 +287,39 @@ between k fs p = opening k ++ (fields_text fs ++ punctuated p [])
 
 bracketed_good : (f : Field) (s : Stack) → well_fields (f ∷ []) ≡ true → Sits s →
     Good (holds s (option_map e.Bracketed (expression_of f))) (stack_text s ++ between kind.Plain (f ∷ []) mark.Close)
-bracketed_good f s w sits = holds_good s (option_map e.Bracketed (expression_of f)) _ (λ y h. mapped e.Bracketed (expression_of f) y h (λ x hx is.
+bracketed_good f s w sits = holds_good s (option_map e.Bracketed (expression_of f)) _
+    (λ y h. mapped e.Bracketed (expression_of f) y h (λ x hx is.
     let same = expression_sound f x hx in
     subst (λ y. Holding s y (stack_text s ++ between kind.Plain (f ∷ []) mark.Close)) is record {
-      spelled = ap (λ t. stack_text s ++ t) (expression-Bracketed x) ∙ ap (λ t. stack_text s ++ in_brackets t) (sym (ap field_text same ∙ value-One x));
+      spelled = ap (λ t. stack_text s ++ t) (expression-Bracketed x)
+          ∙ ap (λ t. stack_text s ++ in_brackets t) (sym (ap field_text same ∙ value-One x));
       sits = sits;
       operand = grade-Bracketed x ∙ ap (λ b. (10, b)) (sym (ap well_field same ∙ well_value-One x) ∙ w);
     }))
 
-did_implied : (fs : List Field) (s : Stack) → well_fields fs ≡ true → Sits s → Good (did s (implied fs)) (stack_text s ++ between kind.Plain fs mark.Close)
+did_implied : (fs : List Field) (s : Stack) → well_fields fs ≡ true → Sits s →
+    Good (did s (implied fs)) (stack_text s ++ between kind.Plain fs mark.Close)
 did_implied fs s w sits = did_good s (implied fs) _ (λ v h. let i = implied_sound fs v h in record {
   spelled = ap (λ t. stack_text s ++ t) (sym i.spelled);
   sits = sits;
   kept = i.kept w;
 })
 
-plain_good : (fs : List Field) (s : Stack) → well_fields fs ≡ true → Sits s → Good (made_plain fs s) (stack_text s ++ between kind.Plain fs mark.Close)
+plain_good : (fs : List Field) (s : Stack) → well_fields fs ≡ true → Sits s →
+    Good (made_plain fs s) (stack_text s ++ between kind.Plain fs mark.Close)
 plain_good [] s w sits = tt
 plain_good (f ∷ []) s w sits = bracketed_good f s w sits
 plain_good (f ∷ g ∷ fs) s w sits = did_implied (f ∷ g ∷ fs) s w sits
 
 behind_good : (n : Word) (fs : List Field) (s : Stack) → well_fields fs ≡ true → Sits s →
-    Good (holds s (option_map (λ items. e.Reference (r.Items n items)) (items_of fs))) (stack_text s ++ between (kind.Behind n) fs mark.Close)
+    Good (holds s (option_map (λ items. e.Reference (r.Items n items)) (items_of fs)))
+    (stack_text s ++ between (kind.Behind n) fs mark.Close)
 behind_good n fs s w sits = holds_good s _ _ (λ y h. mapped (λ items. e.Reference (r.Items n items)) (items_of fs) y h (λ xs hx is.
     let l = items_sound fs xs hx in
     subst (λ y. Holding s y (stack_text s ++ between (kind.Behind n) fs mark.Close)) is record {
-      spelled = ap (λ t. stack_text s ++ t) (expression-Reference (r.Items n xs) ∙ reference-Items n xs ∙ ap (λ t. terminal.Name n ∷ in_brackets t) (sym l.spelled));
+      spelled =
+          ap (λ t. stack_text s ++ t)
+          (expression-Reference (r.Items n xs) ∙ reference-Items n xs ∙ ap (λ t. terminal.Name n ∷ in_brackets t) (sym l.spelled));
       sits = sits;
       operand = grade-Reference (r.Items n xs) ∙ ap (λ b. (10, b)) (well_reference-Items n xs ∙ l.kept w);
     }))
@@ -287,41 +337,50 @@ array_good fs s w sits = holds_good s _ _ (λ y h. mapped e.Constructor (values_
 
 part_text : (n : Word) (xs : List Item) (a b : Option Expression) →
     opening (kind.Part n xs) ++ (spread_text (spread.Triplet a b None) ++ punctuated mark.Close [])
-    ≡ expression (e.Reference (r.Substring n xs a b))
+    ≡ expression (e.Reference (r.Substring n xs (a, b)))
 part_text n xs a b =
-    ap (λ t. terminal.Name n ∷ t) (append_assoc (in_brackets (commas (map item xs))) (punctuated mark.Open []) (spread_text (spread.Triplet a b None) ++ punctuated mark.Close [])
-    ∙ ap (λ t. in_brackets (commas (map item xs)) ++ in_brackets (maybe (option_map expression a) ++ punctuated mark.Colon t)) (append-nil (maybe (option_map expression b))))
-    ∙ sym (expression-Reference (r.Substring n xs a b) ∙ reference-Substring n xs a b)
+    ap (λ t. terminal.Name n ∷ t)
+    (append_assoc (in_brackets (commas (map item xs))) (punctuated mark.Open [])
+    (spread_text (spread.Triplet a b None) ++ punctuated mark.Close [])
+    ∙ ap (λ t. in_brackets (commas (map item xs)) ++ in_brackets (maybe (option_map expression a) ++ punctuated mark.Colon t))
+    (append-nil (maybe (option_map expression b))))
+    ∙ sym (expression-Reference (r.Substring n xs (a, b)) ∙ reference-Substring n xs a b)
 
-range_well : (a b : Option Expression) → well_field (field None (spread.Triplet a b None)) ≡ true → (maybe_well (option_map grade a) && maybe_well (option_map grade b)) ≡ true
+range_well : (a b : Option Expression) → well_field (field None (spread.Triplet a b None)) ≡ true →
+    (maybe_well (option_map grade a) && maybe_well (option_map grade b)) ≡ true
 range_well a b h =
     let ws = both (maybe_well (option_map grade a)) (maybe_well (option_map grade b) && true) h in
     joined _ _ ws.0 (both (maybe_well (option_map grade b)) true ws.1).0
 
-part_good : (n : Word) (xs : List Item) (left : Option Expression) (sp : Spread) (s : Stack) → all (map well_item xs) ≡ true → well_field (field left sp) ≡ true → Sits s →
+part_good : (n : Word) (xs : List Item) (left : Option Expression) (sp : Spread) (s : Stack) → all (map well_item xs) ≡ true →
+    well_field (field left sp) ≡ true → Sits s →
     Good (holds s (part_of n xs left sp)) (stack_text s ++ between (kind.Part n xs) (field left sp ∷ []) mark.Close)
 part_good n xs None (spread.Triplet a b None) s wx w sits = record {
   spelled = ap (λ t. stack_text s ++ t) (sym (part_text n xs a b));
   sits = sits;
-  operand = grade-Reference (r.Substring n xs a b) ∙ ap (λ c. (10, c)) (well_reference-Substring n xs a b ∙ joined _ _ wx (range_well a b w));
+  operand = grade-Reference (r.Substring n xs (a, b)) ∙ ap (λ c. (10, c))
+      (well_reference-Substring n xs a b ∙ joined _ _ wx (range_well a b w));
 }
 part_good n xs None (spread.Triplet a b (Some c)) s wx w sits = tt
 part_good n xs None (spread.One v) s wx w sits = tt
 part_good n xs None spread.Empty s wx w sits = tt
 part_good n xs (Some l) sp s wx w sits = tt
 
-made_part_good : (n : Word) (xs : List Item) (fs : List Field) (s : Stack) → all (map well_item xs) ≡ true → well_fields fs ≡ true → Sits s →
+made_part_good : (n : Word) (xs : List Item) (fs : List Field) (s : Stack) → all (map well_item xs) ≡ true → well_fields fs ≡ true →
+    Sits s →
     Good (holds s (made_part n xs fs)) (stack_text s ++ between (kind.Part n xs) fs mark.Close)
 made_part_good n xs [] s wx w sits = tt
 made_part_good n xs (f ∷ []) s wx w sits = part_good n xs f.left f.spread s wx w sits
 made_part_good n xs (f ∷ g ∷ fs) s wx w sits = tt
 
-alone_good : (fs : List Field) (s : Stack) → well_fields fs ≡ true → Good (alone fs s) (stack_text s ++ between kind.Alone fs mark.Close)
+alone_good : (fs : List Field) (s : Stack) → well_fields fs ≡ true →
+    Good (alone fs s) (stack_text s ++ between kind.Alone fs mark.Close)
 alone_good fs [] w = (refl, w)
 alone_good fs (p ∷ s) w = tt
 
 -- what closed brackets make has the text of their fields
-pub made_good : (k : Bracket) (fs : List Field) (s : Stack) (p : Punctuation) → is_closed_by k p ≡ true → well_bracket k ≡ true → well_fields fs ≡ true → Sits s →
+pub made_good : (k : Bracket) (fs : List Field) (s : Stack) (p : Punctuation) → is_closed_by k p ≡ true → well_bracket k ≡ true →
+    well_fields fs ≡ true → Sits s →
     Good (made k fs s) (stack_text s ++ between k fs p)
 made_good kind.Plain fs s mark.Close c wk w sits = plain_good fs s w sits
 made_good kind.Plain fs s p c wk w sits = absurd (cc)

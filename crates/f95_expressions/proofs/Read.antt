@@ -1,5 +1,6 @@
 -- What is made of fields is spelled as they are.
-use Rattle.std.proofs.Common.{◌≡◌, ℕ, Bool, true, false, ◌&&◌, List, [], ◌∷◌, ◌++◌, map, Option, Some, None, sym, ◌∙◌, ap, subst, refl, append_assoc, append-nil}
+use Rattle.std.proofs.Common.{◌≡◌, ℕ, Bool, true, false, ◌&&◌, List, [], ◌∷◌, ◌++◌, map, Option, Some, None, sym, ◌∙◌, ap, subst}
+use Rattle.std.proofs.Common.{refl, append_assoc, append-nil}
 use Rattle.std.proofs.lemmas.List.{map-append}
 use Rattle.std.specs.Prelude.{option_map, option_and_then, if◌then◌else◌}
 use Rattle.std.proofs.lemmas.Option.{option_and_then_some}
@@ -18,24 +19,30 @@ use Rattle.f95_tree.specs.Spelling.{Text, punctuated, behind_commas, commas, exp
 use Rattle.f95_tree.specs.Grades.{all, maybe_well, grade, well, well_item, well_value}
 use Rattle.f95_tree.specs.Forms.{Word}
 use Rattle.f95_tree.proofs.Nodes.{expression-Reference, reference-Whole}
-use Rattle.f95_tree.proofs.Views.{seen-Literal, seen-Reference, seen-Bracketed, seen-Constructor, seen-Signed, seen-Binary, seen-Plain, seen-Keyword, seen-Triplet, seen-Whole, seen-Items, seen-Substring, seen-One, seen-ImpliedDo}
+use Rattle.f95_tree.proofs.Views.{seen-Literal, seen-Reference, seen-Bracketed, seen-Constructor, seen-Signed, seen-Binary}
+use Rattle.f95_tree.proofs.Views.{seen-Plain, seen-Keyword, seen-Triplet, seen-Whole, seen-Items, seen-Substring, seen-One}
+use Rattle.f95_tree.proofs.Views.{seen-ImpliedDo}
 use Rattle.f95_tree.proofs.Induction.{Expressions, expression_cases, value_cases, item_cases, reference_cases}
 use Rattle.f95_expressions.specs.declared.pending.Field.{Field}
 use Rattle.f95_expressions.specs.declared.pending.Spread.{Spread}
 use Rattle.f95_expressions.specs.declared.pending.Spread.TheVariants as spread
 use Rattle.f95_expressions.specs.declared.pending.Stage.{Stage}
 use Rattle.f95_expressions.specs.declared.pending.Stage.TheVariants as stage
-use Rattle.f95_expressions.specs.Fields.{spread_text, left_text, field_text, done_text, fields_text, well_spread, well_field, well_fields}
-use Rattle.f95_expressions.specs.Machine.{lone, plain, whole, name_in, name_in_reference, expression_in, value_from, item_from, field, item_of, value_of, expression_of, collected, spread_of, coloned, assigned}
+use Rattle.f95_expressions.specs.Fields.{spread_text, left_text, field_text, done_text, fields_text, well_spread, well_field}
+use Rattle.f95_expressions.specs.Fields.{well_fields}
+use Rattle.f95_expressions.specs.Machine.{lone, plain, whole, name_in, name_in_reference, expression_in, value_from, item_from}
+use Rattle.f95_expressions.specs.Machine.{field, item_of, value_of, expression_of, collected, spread_of, coloned, assigned}
 use Rattle.f95_expressions.proofs.Lists.{both, onto, onto_append}
 use Rattle.f95_expressions.proofs.Fields.{value_field, expression_field, item_field, item_field_at}
 
 -- what a mapped option comes from
-pub mapped : {A B P : Type 0} (f : A → B) (o : Option A) (y : B) → option_map f o ≡ Some y → ((x : A) → o ≡ Some x → f x ≡ y → P) → P
+pub mapped : {A B P : Type 0} (f : A → B) (o : Option A) (y : B) → option_map f o ≡ Some y → ((x : A) → o ≡ Some x → f x ≡ y → P) →
+    P
 mapped f None y h k = absurd (cc)
 mapped f (Some x) y h k = k x refl (cc)
 
-pub chained : {A B P : Type 0} (f : A → Option B) (o : Option A) (y : B) → option_and_then f o ≡ Some y → ((x : A) → o ≡ Some x → f x ≡ Some y → P) → P
+pub chained : {A B P : Type 0} (f : A → Option B) (o : Option A) (y : B) → option_and_then f o ≡ Some y →
+    ((x : A) → o ≡ Some x → f x ≡ Some y → P) → P
 chained f None y h k = absurd (cc)
 chained f (Some x) y h k = k x refl h
 
@@ -44,7 +51,8 @@ chained f (Some x) y h k = k x refl h
 lone_one : (x y : Expression) → lone (v.One x) ≡ Some y → v.One x ≡ v.One y
 lone_one x y h = let q = sym (ap expression_in (seen-One x)) ∙ h in ap v.One (cc)
 
-lone_did : (vs : List Value) (n : Word) (a b : Expression) (c : Option Expression) (y : Expression) → lone (v.ImpliedDo vs n a b c) ≡ Some y → v.ImpliedDo vs n a b c ≡ v.One y
+lone_did : (vs : List Value) (n : Word) (a b : Expression) (c : Option Expression) (y : Expression) → lone (v.ImpliedDo vs n a b c)
+    ≡ Some y → v.ImpliedDo vs n a b c ≡ v.One y
 lone_did vs n a b c y h = let q = sym (ap expression_in (seen-ImpliedDo vs n a b c)) ∙ h in absurd (cc)
 
 pub lone_sound : (w : Value) (y : Expression) → lone w ≡ Some y → w ≡ v.One y
@@ -74,7 +82,8 @@ whole_sound = expression_cases Named record {
 pub item-Plain_field : (x : Expression) → item_field (i.Plain x) ≡ expression_field x
 item-Plain_field x = ap item_field_at (seen-Plain x)
 
-pub item-Keyword_field : (n : Word) (x : Expression) → item_field (i.Keyword n x) ≡ field (Some (e.Reference (r.Whole n))) (spread.One (v.One x))
+pub item-Keyword_field : (n : Word) (x : Expression) → item_field (i.Keyword n x)
+    ≡ field (Some (e.Reference (r.Whole n))) (spread.One (v.One x))
 item-Keyword_field n x = ap item_field_at (seen-Keyword n x)
 
 pub item-Triplet_field : (a b c : Option Expression) → item_field (i.Triplet a b c) ≡ field None (spread.Triplet a b c)
@@ -100,7 +109,8 @@ item_sound (Some l) spread.Empty x h = absurd (cc)
 item_sound (Some l) (spread.Triplet a b c) x h = absurd (cc)
 
 pub expression_sound : (f : Field) (x : Expression) → expression_of f ≡ Some x → f ≡ expression_field x
-expression_sound f x h = chained lone (value_of f) x h (λ w hw hx. value_sound f.left f.spread w hw ∙ ap value_field (lone_sound w x hx))
+expression_sound f x h =
+    chained lone (value_of f) x h (λ w hw hx. value_sound f.left f.spread w hw ∙ ap value_field (lone_sound w x hx))
 
 -- ---- lists
 
@@ -109,7 +119,8 @@ pub record Collected {A : Type 0} (g : A → Field) (done bs : List A) (fs : Lis
   pub before : bs ≡ front ++ done
   pub fields : fs ≡ onto (map g front) []
 
-collected_more : {A : Type 0} (g : A → Field) (a : A) (done bs : List A) (f : Field) (fs : List Field) → f ≡ g a → Collected g (a ∷ done) bs fs → Collected g done bs (f ∷ fs)
+collected_more : {A : Type 0} (g : A → Field) (a : A) (done bs : List A) (f : Field) (fs : List Field) → f ≡ g a →
+    Collected g (a ∷ done) bs fs → Collected g done bs (f ∷ fs)
 collected_more g a done bs f fs is more = record {
   front = more.front ++ a ∷ [];
   before = more.before ∙ sym (append_assoc more.front (a ∷ []) done);
@@ -127,10 +138,12 @@ collected_sound make g sound done bs (f ∷ fs) h = chained (λ a. collected mak
 pub all_collected : {A : Type 0} (make : Field → Option A) (g : A → Field) → ((f : Field) (a : A) → make f ≡ Some a → f ≡ g a) →
     (bs : List A) (fs : List Field) → collected make [] fs ≡ Some bs → fs ≡ onto (map g bs) []
 all_collected make g sound bs fs h =
-    let c = collected_sound make g sound [] bs fs h in c.fields ∙ ap (λ xs. onto (map g xs) []) (sym (c.before ∙ append-nil c.front))
+    let c = collected_sound make g sound [] bs fs h in c.fields
+    ∙ ap (λ xs. onto (map g xs) []) (sym (c.before ∙ append-nil c.front))
 
 -- fields in a row are spelled with commas
-onto_text : {A : Type 0} (g : A → Field) (text : A → Text) → ((x : A) → field_text (g x) ≡ text x) → (x : A) (xs : List A) (d : List Field) →
+onto_text : {A : Type 0} (g : A → Field) (text : A → Text) → ((x : A) → field_text (g x) ≡ text x) →
+    (x : A) (xs : List A) (d : List Field) →
     fields_text (onto (map g (x ∷ xs)) d) ≡ done_text d ++ commas (map text (x ∷ xs))
 onto_text g text same x [] d = ap (λ t. done_text d ++ t) (same x ∙ sym (append-nil (text x)))
 onto_text g text same x (y ∷ ys) d =

@@ -14,7 +14,8 @@ abbrev pub spread_text : Spread → Text
 spread_text spread.Empty = []
 spread_text (spread.One v) = value v
 spread_text (spread.Triplet lower upper stride) =
-    maybe (maybe_expression lower) ++ punctuated mark.Colon (maybe (maybe_expression upper) ++ maybe_behind mark.Colon (maybe_expression stride))
+    maybe (maybe_expression lower)
+    ++ punctuated mark.Colon (maybe (maybe_expression upper) ++ maybe_behind mark.Colon (maybe_expression stride))
 
 -- left =
 abbrev pub left_text : Option Expression → Text
@@ -37,7 +38,8 @@ fields_text (f ∷ fs) = done_text fs ++ field_text f
 abbrev pub well_spread : Spread → Bool
 well_spread spread.Empty = true
 well_spread (spread.One v) = well_value v
-well_spread (spread.Triplet lower upper stride) = maybe_well_expression lower && (maybe_well_expression upper && maybe_well_expression stride)
+well_spread (spread.Triplet lower upper stride) = maybe_well_expression lower
+    && (maybe_well_expression upper && maybe_well_expression stride)
 
 abbrev pub well_field : Field → Bool
 well_field f = maybe_well_expression f.left && well_spread f.spread

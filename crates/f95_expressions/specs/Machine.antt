@@ -1,5 +1,6 @@
 -- The machine that reads fields of expressions: one terminal a step, with a stack of what is open.
-use Rattle.std.specs.Prelude.{ℕ, Bool, true, false, nat_le, List, [], ◌∷◌, Option, Some, None, is_some, option_map, option_and_then, if◌then◌else◌}
+use Rattle.std.specs.Prelude.{ℕ, Bool, true, false, nat_le, List, [], ◌∷◌, Option, Some, None, is_some, option_map, option_and_then}
+use Rattle.std.specs.Prelude.{if◌then◌else◌}
 use Rattle.f95_tree.specs.declared.expression.Expression.{Expression, out-Expression}
 use Rattle.f95_tree.specs.declared.expression.Expression.TheVariants as e
 use Rattle.f95_tree.specs.declared.expression.Reference.{Reference, out-Reference}
@@ -212,7 +213,9 @@ values_of fs = option_and_then filled (collected value_of [] fs)
 -- an implied DO over these fields, with an index, its last value and its step
 abbrev pub looped : List Field → Field → Field → Option Field → Option Value
 looped fs index last step =
-    option_and_then (λ values. option_and_then (λ n. option_and_then (λ from. option_and_then (λ to. option_map (λ by. v.ImpliedDo values n from to by)
+    option_and_then
+    (λ values. option_and_then
+    (λ n. option_and_then (λ from. option_and_then (λ to. option_map (λ by. v.ImpliedDo values n from to by)
     (maybe_expression_of step)) (expression_of last)) (first_in index.spread)) (index_of index)) (values_of fs)
 
 abbrev pub looped_with_step : List Field → Field → Field → Option Value
@@ -243,7 +246,7 @@ range_from None (spread.Triplet lower upper None) = Some (lower, upper)
 range_from _ _ = None
 
 abbrev pub part_of : Word → List Item → Option Expression → Spread → Option Expression
-part_of n items left s = option_map (λ range. e.Reference (r.Substring n items range.0 range.1)) (range_from left s)
+part_of n items left s = option_map (λ range. e.Reference (r.Substring n items range)) (range_from left s)
 
 abbrev pub made_part : Word → List Item → List Field → Option Expression
 made_part n items (f ∷ []) = part_of n items f.left f.spread
@@ -295,8 +298,10 @@ abbrev pub separated_in : Bracket → List Field → Option Expression → Stage
 separated_in k fs left g s last mark.Comma = parted k fs s (field_of left g last)
 separated_in k fs left g s last mark.Colon = with_stage k fs left s (coloned g last)
 separated_in k fs left g s last mark.Assign = with_left k fs s (assigned left g last)
-separated_in k fs left g s last mark.Close = if is_closed_by k mark.Close then closed k fs s (field_of left g last) else machine.Stops
-separated_in k fs left g s last mark.CloseArray = if is_closed_by k mark.CloseArray then closed k fs s (field_of left g last) else machine.Stops
+separated_in k fs left g s last mark.Close = if is_closed_by k mark.Close then closed k fs s (field_of left g last) else
+    machine.Stops
+separated_in k fs left g s last mark.CloseArray = if is_closed_by k mark.CloseArray then closed k fs s (field_of left g last) else
+    machine.Stops
 separated_in k fs left g s last _ = machine.Stops
 
 abbrev pub separated : Stack → Option Value → Punctuation → Machine
@@ -327,7 +332,7 @@ first_step s _ = machine.Stops
 abbrev pub opened_reference : Stack → ReferenceLayer → Machine
 opened_reference s (layer.Whole n) = fresh (kind.Behind n) [] s
 opened_reference s (layer.Items n items) = fresh (kind.Part n items) [] s
-opened_reference s (layer.Substring _ _ _ _) = machine.Stops
+opened_reference s (layer.Substring _ _ _) = machine.Stops
 
 -- an opening bracket behind an operand
 abbrev pub opened : Stack → ExpressionLayer → Machine
@@ -381,7 +386,8 @@ is_row _ = false
 
 -- the fields of a row that ends here, if it is one
 abbrev pub row_ending : Ending → Option (List Field)
-row_ending ending = if is_row ending.bracket then option_map (λ f. f ∷ ending.fields) (field_of ending.left ending.stage ending.last) else None
+row_ending ending = if is_row ending.bracket then option_map (λ f. f ∷ ending.fields)
+    (field_of ending.left ending.stage ending.last) else None
 
 abbrev pub ended_held : Held → Option Found
 ended_held h = row_of h.stack (Some (v.One h.expression))

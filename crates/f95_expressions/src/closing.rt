@@ -1,26 +1,33 @@
 //! What closed brackets make of their fields.
 
 ghost use Rattle.std.specs.Prelude.{◌≡◌, [], ◌∷◌, IfOk, IsTrue, ◌↔◌, option_map, option_and_then};
-ghost use Rattle.f95_expressions.specs.Machine.{lone, whole, item_from, item_of, is_nothing, within, items_of, collected, value_from, value_of, filled, values_of, expression_of, has_left, index_of, first_in, maybe_expression_of, looped, looped_with_step, implied, range_from, part_of, made_part};
+ghost use Rattle.f95_expressions.specs.Machine.{lone, whole, item_from, item_of, is_nothing, within, items_of, collected};
+ghost use Rattle.f95_expressions.specs.Machine.{value_from, value_of, filled, values_of, expression_of, has_left, index_of};
+ghost use Rattle.f95_expressions.specs.Machine.{first_in, maybe_expression_of, looped, looped_with_step, implied, range_from};
+ghost use Rattle.f95_expressions.specs.Machine.{part_of, made_part};
 
 use crate::field::lone;
-use crate::pending::{Field, Spread};
-use a95_base::{Bytes, Stack};
+use crate::pending::{Field, Spread, pushed};
+use a95_base::{SharedBytes, Stack};
 use f95_tree::{Expression, Item, Reference, Value};
 use sqlite_items::{Boxed, Items};
 use std::alloc::{AllocError, Global};
 
 /// The name of a variable that is named alone.
-pub fn whole(expression: Expression) -> Option<Bytes>
+pub fn whole(expression: Expression) -> Option<SharedBytes>
     ensures { result ≡ whole expression }
 {
     match expression {
         Expression::Reference(Reference::Whole(name)) => Some(name),
-        _ => None,
+        other => {
+            drop(other);
+            None
+        }
     }
 }
 
-fn boxed(
+/// The expression in a box of its own, if there is one.
+pub fn boxed(
     alloc: Global,
     expression: Option<Expression>,
 ) -> Result<Option<Boxed<Expression>>, AllocError>
@@ -40,17 +47,40 @@ fn triplet(
 ) -> Result<Item, AllocError>
     ensures { IfOk result (λ item. item ≡ Item.Triplet lower upper stride) }
 {
-    let lower = boxed(alloc, lower)?;
-    let upper = boxed(alloc, upper)?;
-    let stride = boxed(alloc, stride)?;
-    Ok(Item::Triplet(lower, upper, stride))
+    let lower = match boxed(alloc, lower) {
+        Ok(lower) => lower,
+        Err(error) => {
+            drop(upper);
+            drop(stride);
+            return Err(error);
+        }
+    };
+    let upper = match boxed(alloc, upper) {
+        Ok(upper) => upper,
+        Err(error) => {
+            drop(lower);
+            drop(stride);
+            return Err(error);
+        }
+    };
+    match boxed(alloc, stride) {
+        Ok(stride) => Ok(Item::Triplet(lower, upper, stride)),
+        Err(error) => {
+            drop(lower);
+            drop(upper);
+            Err(error)
+        }
+    }
 }
 
-fn keyword_value(name: Bytes, value: Value) -> Option<Item>
+fn keyword_value(name: SharedBytes, value: Value) -> Option<Item>
     ensures { result ≡ option_map (Item.Keyword name) (lone value) }
 {
     match lone(value) {
-        None => None,
+        None => {
+            drop(name);
+            None
+        }
         Some(expression) => Some(Item::Keyword(name, expression)),
     }
 }
@@ -59,9 +89,24 @@ fn keyword_item(left: Expression, spread: Spread) -> Option<Item>
     ensures { result ≡ item_from (Some left) spread }
 {
     match spread {
-        Spread::Empty => None,
-        Spread::One(value) => keyword_value(whole(left)?, value),
-        Spread::Triplet(..) => None,
+        Spread::Empty => {
+            drop(left);
+            None
+        }
+        Spread::One(value) => {
+            let Some(name) = whole(left) else {
+                drop(value);
+                return None;
+            };
+            keyword_value(name, value)
+        }
+        Spread::Triplet(lower, upper, stride) => {
+            drop(left);
+            drop(lower);
+            drop(upper);
+            drop(stride);
+            None
+        }
     }
 }
 
@@ -103,20 +148,13 @@ fn is_nothing(field: &Field) -> bool
     matches!((&field.left, &field.spread), (None, Spread::Empty))
 }
 
-fn pushed(fields: Stack<Field>, field: Field) -> Result<Stack<Field>, AllocError>
-    ensures { IfOk result (λ pushed. pushed ≡ field ∷ fields) }
-{
-    let mut fields = fields;
-    fields.push(field)?;
-    Ok(fields)
-}
-
 /// The only field between brackets, if something stands there.
 fn within_one(fields: Stack<Field>, field: Field) -> Result<Stack<Field>, AllocError>
     requires { fields ≡ [] }
     ensures { IfOk result (λ fields. fields ≡ within (field ∷ [])) }
 {
     if is_nothing(&field) {
+        drop(field);
         Ok(fields)
     } else {
         pushed(fields, field)
@@ -144,11 +182,28 @@ pub fn items_of(alloc: Global, fields: Stack<Field>) -> Result<Option<Items<Item
     let mut fields = within(fields)?;
     let mut items = Stack::new(alloc);
     'collecting: while let Some(field) = fields.pop() {
-        let Some(item) = item_of(alloc, field)? else {
-            return Ok(None);
+        let item = match item_of(alloc, field) {
+            Ok(Some(item)) => item,
+            Ok(None) => {
+                drop(fields);
+                drop(items);
+                return Ok(None);
+            }
+            Err(error) => {
+                drop(fields);
+                drop(items);
+                return Err(error);
+            }
         };
-        items.push(item)?;
+        items = match pushed(items, item) {
+            Ok(items) => items,
+            Err(error) => {
+                drop(fields);
+                return Err(error);
+            }
+        };
     }
+    drop(fields);
     Ok(Some(items.into_items()))
 }
 
@@ -159,7 +214,12 @@ fn value_in(spread: Spread) -> Option<Value>
     match spread {
         Spread::Empty => None,
         Spread::One(value) => Some(value),
-        Spread::Triplet(..) => None,
+        Spread::Triplet(lower, upper, stride) => {
+            drop(lower);
+            drop(upper);
+            drop(stride);
+            None
+        }
     }
 }
 
@@ -169,7 +229,11 @@ fn value_of(field: Field) -> Option<Value>
     let Field { left, spread } = field;
     match left {
         None => value_in(spread),
-        Some(_) => None,
+        Some(left) => {
+            drop(left);
+            drop(spread);
+            None
+        }
     }
 }
 
@@ -181,10 +245,19 @@ pub fn values_of(alloc: Global, fields: Stack<Field>) -> Result<Option<Items<Val
     let mut values = Stack::new(alloc);
     'collecting: while let Some(field) = fields.pop() {
         let Some(value) = value_of(field) else {
+            drop(fields);
+            drop(values);
             return Ok(None);
         };
-        values.push(value)?;
+        values = match pushed(values, value) {
+            Ok(values) => values,
+            Err(error) => {
+                drop(fields);
+                return Err(error);
+            }
+        };
     }
+    drop(fields);
     Ok(filled(values.into_items()))
 }
 
@@ -192,6 +265,7 @@ fn filled(values: Items<Value>) -> Option<Items<Value>>
     ensures { result ≡ filled values }
 {
     if values.is_empty() {
+        drop(values);
         None
     } else {
         Some(values)
@@ -215,7 +289,7 @@ fn maybe_expression_of(field: Option<Field>) -> Option<Option<Expression>>
 }
 
 /// The name in `name = first`.
-fn index_name(left: Option<Expression>) -> Option<Bytes>
+fn index_name(left: Option<Expression>) -> Option<SharedBytes>
     ensures { result ≡ option_and_then whole left }
 {
     whole(left?)
@@ -227,7 +301,65 @@ fn first_in(spread: Spread) -> Option<Expression>
     match spread {
         Spread::Empty => None,
         Spread::One(value) => lone(value),
-        Spread::Triplet(..) => None,
+        Spread::Triplet(lower, upper, stride) => {
+            drop(lower);
+            drop(upper);
+            drop(stride);
+            None
+        }
+    }
+}
+
+/// `( values , name = first , last , step )`
+fn implied_do(
+    alloc: Global,
+    values: Items<Value>,
+    name: SharedBytes,
+    first: Expression,
+    last: Expression,
+    step: Option<Expression>,
+) -> Result<Value, AllocError>
+    ensures { IfOk result (λ value. value ≡ Value.ImpliedDo values name first last step) }
+{
+    let values = match Boxed::new(alloc, values) {
+        Ok(values) => values,
+        Err(error) => {
+            drop(name);
+            drop(first);
+            drop(last);
+            drop(step);
+            return Err(error);
+        }
+    };
+    let first = match Boxed::new(alloc, first) {
+        Ok(first) => first,
+        Err(error) => {
+            drop(values);
+            drop(name);
+            drop(last);
+            drop(step);
+            return Err(error);
+        }
+    };
+    let last = match Boxed::new(alloc, last) {
+        Ok(last) => last,
+        Err(error) => {
+            drop(values);
+            drop(name);
+            drop(first);
+            drop(step);
+            return Err(error);
+        }
+    };
+    match boxed(alloc, step) {
+        Ok(step) => Ok(Value::ImpliedDo(values, name, first, last, step)),
+        Err(error) => {
+            drop(values);
+            drop(name);
+            drop(first);
+            drop(last);
+            Err(error)
+        }
     }
 }
 
@@ -240,26 +372,52 @@ fn looped(
 ) -> Result<Option<Value>, AllocError>
     ensures { IfOk result (λ value. value ≡ looped fields index last step) }
 {
-    let Some(values) = values_of(alloc, fields)? else {
-        return Ok(None);
+    let values = match values_of(alloc, fields) {
+        Ok(Some(values)) => values,
+        Ok(None) => {
+            drop(index);
+            drop(last);
+            drop(step);
+            return Ok(None);
+        }
+        Err(error) => {
+            drop(index);
+            drop(last);
+            drop(step);
+            return Err(error);
+        }
     };
     let Field { left, spread } = index;
     let Some(name) = index_name(left) else {
+        drop(values);
+        drop(spread);
+        drop(last);
+        drop(step);
         return Ok(None);
     };
     let Some(first) = first_in(spread) else {
+        drop(values);
+        drop(name);
+        drop(last);
+        drop(step);
         return Ok(None);
     };
     let Some(last) = expression_of(last) else {
+        drop(values);
+        drop(name);
+        drop(first);
+        drop(step);
         return Ok(None);
     };
     let Some(step) = maybe_expression_of(step) else {
+        drop(values);
+        drop(name);
+        drop(first);
+        drop(last);
         return Ok(None);
     };
-    let first = Boxed::new(alloc, first)?;
-    let last = Boxed::new(alloc, last)?;
-    let step = boxed(alloc, step)?;
-    Ok(Some(Value::ImpliedDo(values, name, first, last, step)))
+    let value = implied_do(alloc, values, name, first, last, step)?;
+    Ok(Some(value))
 }
 
 fn looped_with_step(
@@ -272,7 +430,12 @@ fn looped_with_step(
 {
     let mut fields = fields;
     match fields.pop() {
-        None => Ok(None),
+        None => {
+            drop(fields);
+            drop(last);
+            drop(step);
+            Ok(None)
+        }
         Some(index) => looped(alloc, fields, index, last, Some(step)),
     }
 }
@@ -296,16 +459,20 @@ pub fn implied(
 /// `name ( items ) ( lower : upper )`
 fn substring(
     alloc: Global,
-    name: Bytes,
-    items: Items<Item>,
-    lower: Option<Expression>,
-    upper: Option<Expression>,
+    name: SharedBytes,
+    items: Boxed<Items<Item>>,
+    range: (Option<Expression>, Option<Expression>),
 ) -> Result<Expression, AllocError>
-    ensures { IfOk result (λ part. part ≡ Expression.Reference (Reference.Substring name items lower upper)) }
+    ensures { IfOk result (λ part. part ≡ Expression.Reference (Reference.Substring name items range)) }
 {
-    let lower = boxed(alloc, lower)?;
-    let upper = boxed(alloc, upper)?;
-    Ok(Expression::Reference(Reference::Substring(name, items, lower, upper)))
+    match Boxed::new(alloc, range) {
+        Ok(range) => Ok(Expression::Reference(Reference::Substring(name, items, range))),
+        Err(error) => {
+            drop(name);
+            drop(items);
+            Err(error)
+        }
+    }
 }
 
 /// The bounds of a substring.
@@ -315,7 +482,11 @@ fn range_of(field: Field) -> Option<(Option<Expression>, Option<Expression>)>
     let Field { left, spread } = field;
     match left {
         None => range_in(spread),
-        Some(_) => None,
+        Some(left) => {
+            drop(left);
+            drop(spread);
+            None
+        }
     }
 }
 
@@ -324,26 +495,38 @@ fn range_in(spread: Spread) -> Option<(Option<Expression>, Option<Expression>)>
 {
     match spread {
         Spread::Empty => None,
-        Spread::One(_) => None,
+        Spread::One(value) => {
+            drop(value);
+            None
+        }
         Spread::Triplet(lower, upper, stride) => match stride {
             None => Some((lower, upper)),
-            Some(_) => None,
+            Some(stride) => {
+                drop(lower);
+                drop(upper);
+                drop(stride);
+                None
+            }
         },
     }
 }
 
 fn part_of(
     alloc: Global,
-    name: Bytes,
-    items: Items<Item>,
+    name: SharedBytes,
+    items: Boxed<Items<Item>>,
     field: Field,
 ) -> Result<Option<Expression>, AllocError>
     ensures { IfOk result (λ part. part ≡ part_of name items field.left field.spread) }
 {
     match range_of(field) {
-        None => Ok(None),
-        Some((lower, upper)) => {
-            let part = substring(alloc, name, items, lower, upper)?;
+        None => {
+            drop(name);
+            drop(items);
+            Ok(None)
+        }
+        Some(range) => {
+            let part = substring(alloc, name, items, range)?;
             Ok(Some(part))
         }
     }
@@ -352,19 +535,31 @@ fn part_of(
 /// `name ( items )` with the brackets of a substring behind it.
 pub fn made_part(
     alloc: Global,
-    name: Bytes,
-    items: Items<Item>,
+    name: SharedBytes,
+    items: Boxed<Items<Item>>,
     fields: Stack<Field>,
 ) -> Result<Option<Expression>, AllocError>
     ensures { IfOk result (λ part. part ≡ made_part name items fields) }
 {
     let mut fields = fields;
     let Some(field) = fields.pop() else {
+        drop(name);
+        drop(items);
+        drop(fields);
         return Ok(None);
     };
     match fields.top() {
-        Some(_) => Ok(None),
-        None => part_of(alloc, name, items, field),
+        Some(_) => {
+            drop(name);
+            drop(items);
+            drop(fields);
+            drop(field);
+            Ok(None)
+        }
+        None => {
+            drop(fields);
+            part_of(alloc, name, items, field)
+        }
     }
 }
 

@@ -1,6 +1,6 @@
 //! What a separator makes of a field.
 
-ghost use Rattle.std.specs.Prelude.{◌≡◌};
+ghost use Rattle.std.specs.Prelude.{◌≡◌, option_and_then};
 ghost use Rattle.f95_expressions.specs.Machine.{lone, plain, one_or_empty, spread_of, coloned, assigned, field, field_of};
 
 use crate::pending::{Field, Spread, Stage};
@@ -12,7 +12,10 @@ pub fn lone(value: Value) -> Option<Expression>
 {
     match value {
         Value::One(expression) => Some(expression),
-        Value::ImpliedDo(..) => None,
+        other => {
+            drop(other);
+            None
+        }
     }
 }
 
@@ -24,6 +27,13 @@ fn plain(last: Option<Value>) -> Option<Option<Expression>>
         None => Some(None),
         Some(value) => lone(value).map(Some),
     }
+}
+
+/// The expression that stands there, if one does.
+fn lone_in(last: Option<Value>) -> Option<Expression>
+    ensures { result ≡ option_and_then lone last }
+{
+    lone(last?)
 }
 
 fn one_or_empty(last: Option<Value>) -> Spread
@@ -41,11 +51,18 @@ fn spread_of(stage: Stage, last: Option<Value>) -> Option<Spread>
     match stage {
         Stage::Start => Some(one_or_empty(last)),
         Stage::Upper(lower) => {
-            let upper = plain(last)?;
+            let Some(upper) = plain(last) else {
+                drop(lower);
+                return None;
+            };
             Some(Spread::Triplet(lower, upper, None))
         }
         Stage::Stride(lower, upper) => {
-            let stride = lone(last?)?;
+            let Some(stride) = lone_in(last) else {
+                drop(lower);
+                drop(upper);
+                return None;
+            };
             Some(Spread::Triplet(lower, upper, Some(stride)))
         }
     }
@@ -55,7 +72,10 @@ fn spread_of(stage: Stage, last: Option<Value>) -> Option<Spread>
 pub fn field_of(left: Option<Expression>, stage: Stage, last: Option<Value>) -> Option<Field>
     ensures { result ≡ field_of left stage last }
 {
-    let spread = spread_of(stage, last)?;
+    let Some(spread) = spread_of(stage, last) else {
+        drop(left);
+        return None;
+    };
     Some(Field { left, spread })
 }
 
@@ -69,10 +89,38 @@ pub fn coloned(stage: Stage, last: Option<Value>) -> Option<Stage>
             Some(Stage::Upper(lower))
         }
         Stage::Upper(lower) => {
-            let upper = plain(last)?;
+            let Some(upper) = plain(last) else {
+                drop(lower);
+                return None;
+            };
             Some(Stage::Stride(lower, upper))
         }
-        Stage::Stride(..) => None,
+        Stage::Stride(lower, upper) => {
+            drop(lower);
+            drop(upper);
+            drop(last);
+            None
+        }
+    }
+}
+
+/// The left side that `=` makes where there is none yet.
+fn assigned_first(stage: Stage, last: Option<Value>) -> Option<Expression>
+    ensures { result ≡ assigned None stage last }
+{
+    match stage {
+        Stage::Start => lone_in(last),
+        Stage::Upper(lower) => {
+            drop(lower);
+            drop(last);
+            None
+        }
+        Stage::Stride(lower, upper) => {
+            drop(lower);
+            drop(upper);
+            drop(last);
+            None
+        }
     }
 }
 
@@ -80,8 +128,13 @@ pub fn coloned(stage: Stage, last: Option<Value>) -> Option<Stage>
 pub fn assigned(left: Option<Expression>, stage: Stage, last: Option<Value>) -> Option<Expression>
     ensures { result ≡ assigned left stage last }
 {
-    match (left, stage) {
-        (None, Stage::Start) => lone(last?),
-        _ => None,
+    match left {
+        None => assigned_first(stage, last),
+        Some(left) => {
+            drop(left);
+            drop(stage);
+            drop(last);
+            None
+        }
     }
 }

@@ -10,7 +10,7 @@ mod machine;
 mod pending;
 mod run;
 
-pub use closing::{expression_of, items_of, whole, within};
+pub use closing::{boxed, expression_of, items_of, whole, within};
 pub use field::lone;
 pub use pending::{Bracket, Ending, Field, Held, Machine, Pending, Spread, Stage};
 pub use run::{Closed, bracket, row};

@@ -1,15 +1,21 @@
 //! The machine that reads fields of expressions, one terminal a step.
 
-ghost use Rattle.std.specs.Prelude.{◌≡◌, ◌∷◌, true, false, IfOk, MatchOption, option_and_then, option_map};
-ghost use Rattle.f95_expressions.specs.Machine.{asked, held, reduce, can_make, made_of, operated, signed, fresh, parted, closed, with_stage, with_left, holds, did, made_plain, made, alone, is_closed_by, separated, separated_in, first_mark, first_operator, first_step, opened, ended_by, next_mark, next_step, did_step, step, row_of, row_found, ended, ending_of, is_row, row_ending};
+ghost use Rattle.std.specs.Prelude.{◌≡◌, ◌∷◌, [], true, false, IfOk, MatchOption, option_and_then, option_map};
+ghost use Rattle.f95_expressions.specs.Machine.{field_of, coloned, assigned, asked, held, reduce, can_make, made_of, operated};
+ghost use Rattle.f95_expressions.specs.Machine.{signed, fresh, parted, closed, with_stage, with_left, holds, did, made_plain, made};
+ghost use Rattle.f95_expressions.specs.Machine.{alone, is_closed_by, separated, separated_in, first_mark, first_operator};
+ghost use Rattle.f95_expressions.specs.Machine.{first_step, opened, ended_by, next_mark, next_step, did_step, step, row_of};
+ghost use Rattle.f95_expressions.specs.Machine.{row_found, ended, ending_of, is_row, row_ending};
 
 use crate::closing::{bracketed, implied, items_of, made_part, values_of};
 use crate::field::{assigned, coloned, field_of};
 use crate::levels::{left_of, level, right_of, sign_level, under_sign};
-use crate::pending::{Bracket, Ending, Field, Held, Machine, Pending, Stage};
-use a95_base::Stack;
-use f95_tree::{Expression, Literal, Operator, Punctuation, Reference, Sign, Terminal, Value};
-use sqlite_items::Boxed;
+use crate::pending::{Bracket, Ending, Field, Held, Machine, Pending, Stage, pushed};
+use a95_base::{SharedBytes, Stack};
+use f95_tree::{
+    Expression, Item, Literal, Operator, Punctuation, Reference, Sign, Terminal, Value,
+};
+use sqlite_items::{Boxed, Items};
 use std::alloc::{AllocError, Global};
 
 /// The least level that the operand on top must have.
@@ -36,6 +42,31 @@ fn can_make(least: u8, stack: &Stack<Pending>) -> bool
     }
 }
 
+/// `left operator right`
+fn binary(
+    alloc: Global,
+    operator: Operator,
+    left: Expression,
+    right: Expression,
+) -> Result<Expression, AllocError>
+    ensures { IfOk result (λ made. made ≡ Expression.Binary operator left right) }
+{
+    let left = match Boxed::new(alloc, left) {
+        Ok(left) => left,
+        Err(error) => {
+            drop(right);
+            return Err(error);
+        }
+    };
+    match Boxed::new(alloc, right) {
+        Ok(right) => Ok(Expression::Binary(operator, left, right)),
+        Err(error) => {
+            drop(left);
+            Err(error)
+        }
+    }
+}
+
 /// The operation that waited for this operand.
 fn made_of(
     alloc: Global,
@@ -45,22 +76,25 @@ fn made_of(
     ensures { IfOk result (λ made. made ≡ made_of pending expression) }
 {
     match pending {
-        Pending::Left(left, operator) => {
-            let left = Boxed::new(alloc, left)?;
-            let right = Boxed::new(alloc, expression)?;
-            Ok(Expression::Binary(operator, left, right))
-        }
+        Pending::Left(left, operator) => binary(alloc, operator, left, expression),
         Pending::Before(sign) => {
             let operand = Boxed::new(alloc, expression)?;
             Ok(Expression::Signed(sign, operand))
         }
-        Pending::Open(..) => Ok(expression),
+        Pending::Open(bracket, fields, left, stage) => {
+            drop(bracket);
+            drop(fields);
+            drop(left);
+            drop(stage);
+            Ok(expression)
+        }
     }
 }
 
 /// Takes what waits on top, if it has at least this level.
 fn next_made(least: u8, stack: &mut Stack<Pending>) -> Option<Pending>
-    ensures { MatchOption result ((can_make least stack.old ≡ false) × (stack.new ≡ stack.old)) (λ p. (stack.old ≡ p ∷ stack.new) × (can_make least stack.old ≡ true)) }
+    ensures { MatchOption result ((can_make least stack.old ≡ false) × (stack.new ≡ stack.old))
+        (λ p. (stack.old ≡ p ∷ stack.new) × (can_make least stack.old ≡ true)) }
 {
     if can_make(least, stack) {
         stack.pop()
@@ -82,7 +116,13 @@ fn reduce(
     let mut stack = stack;
     let mut expression = expression;
     'making: while let Some(pending) = next_made(least, &mut stack) {
-        expression = made_of(alloc, pending, expression)?;
+        expression = match made_of(alloc, pending, expression) {
+            Ok(made) => made,
+            Err(error) => {
+                drop(stack);
+                return Err(error);
+            }
+        };
     }
     Ok(Held { stack, expression })
 }
@@ -90,14 +130,13 @@ fn reduce(
 fn operated(operator: Operator, held: Held) -> Result<Machine, AllocError>
     ensures { IfOk result (λ m. m ≡ operated operator held) }
 {
-    let Held {
-        mut stack,
-        expression,
-    } = held;
+    let Held { stack, expression } = held;
     if asked(&stack) <= level(operator) {
-        stack.push(Pending::Left(expression, operator))?;
+        let stack = pushed(stack, Pending::Left(expression, operator))?;
         Ok(Machine::Waits(stack))
     } else {
+        drop(stack);
+        drop(expression);
         Ok(Machine::Stops)
     }
 }
@@ -105,11 +144,11 @@ fn operated(operator: Operator, held: Held) -> Result<Machine, AllocError>
 fn signed(sign: Sign, stack: Stack<Pending>) -> Result<Machine, AllocError>
     ensures { IfOk result (λ m. m ≡ signed sign stack) }
 {
-    let mut stack = stack;
     if asked(&stack) <= sign_level(sign) {
-        stack.push(Pending::Before(sign))?;
+        let stack = pushed(stack, Pending::Before(sign))?;
         Ok(Machine::Waits(stack))
     } else {
+        drop(stack);
         Ok(Machine::Stops)
     }
 }
@@ -124,8 +163,7 @@ fn open(
 ) -> Result<Machine, AllocError>
     ensures { IfOk result (λ m. m ≡ Machine.Waits (Pending.Open bracket fields left stage ∷ stack)) }
 {
-    let mut stack = stack;
-    stack.push(Pending::Open(bracket, fields, left, stage))?;
+    let stack = pushed(stack, Pending::Open(bracket, fields, left, stage))?;
     Ok(Machine::Waits(stack))
 }
 
@@ -144,7 +182,10 @@ fn holds(stack: Stack<Pending>, expression: Option<Expression>) -> Machine
     ensures { result ≡ holds stack expression }
 {
     match expression {
-        None => Machine::Stops,
+        None => {
+            drop(stack);
+            Machine::Stops
+        }
         Some(expression) => Machine::Holds(stack, expression),
     }
 }
@@ -153,8 +194,43 @@ fn did(stack: Stack<Pending>, value: Option<Value>) -> Machine
     ensures { result ≡ did stack value }
 {
     match value {
-        None => Machine::Stops,
+        None => {
+            drop(stack);
+            Machine::Stops
+        }
         Some(value) => Machine::Did(stack, value),
+    }
+}
+
+/// `( e )` in the place of an operand.
+fn made_bracketed(alloc: Global, last: Field, stack: Stack<Pending>) -> Result<Machine, AllocError>
+    ensures { IfOk result (λ m. m ≡ made_plain (last ∷ []) stack) }
+{
+    match bracketed(alloc, last) {
+        Ok(expression) => Ok(holds(stack, expression)),
+        Err(error) => {
+            drop(stack);
+            Err(error)
+        }
+    }
+}
+
+/// An implied DO in the place of an operand.
+fn made_implied(
+    alloc: Global,
+    fields: Stack<Field>,
+    before: Field,
+    last: Field,
+    stack: Stack<Pending>,
+) -> Result<Machine, AllocError>
+    ensures { IfOk result (λ m. m ≡ made_plain (last ∷ before ∷ fields) stack) }
+{
+    match implied(alloc, fields, before, last) {
+        Ok(value) => Ok(did(stack, value)),
+        Err(error) => {
+            drop(stack);
+            Err(error)
+        }
     }
 }
 
@@ -167,11 +243,16 @@ fn made_plain(
 {
     let mut fields = fields;
     let Some(last) = fields.pop() else {
+        drop(fields);
+        drop(stack);
         return Ok(Machine::Stops);
     };
     match fields.pop() {
-        None => Ok(holds(stack, bracketed(alloc, last)?)),
-        Some(before) => Ok(did(stack, implied(alloc, fields, before, last)?)),
+        None => {
+            drop(fields);
+            made_bracketed(alloc, last, stack)
+        }
+        Some(before) => made_implied(alloc, fields, before, last, stack),
     }
 }
 
@@ -179,8 +260,90 @@ fn alone(fields: Stack<Field>, stack: Stack<Pending>) -> Machine
     ensures { result ≡ alone fields stack }
 {
     match stack.top() {
-        None => Machine::Closed(fields),
-        Some(_) => Machine::Stops,
+        None => {
+            drop(stack);
+            Machine::Closed(fields)
+        }
+        Some(_) => {
+            drop(fields);
+            drop(stack);
+            Machine::Stops
+        }
+    }
+}
+
+/// `name ( items )`
+fn made_behind(
+    alloc: Global,
+    name: SharedBytes,
+    fields: Stack<Field>,
+    stack: Stack<Pending>,
+) -> Result<Machine, AllocError>
+    ensures { IfOk result (λ m. m ≡ made (Bracket.Behind name) fields stack) }
+{
+    let items = match items_of(alloc, fields) {
+        Ok(Some(items)) => items,
+        Ok(None) => {
+            drop(name);
+            drop(stack);
+            return Ok(Machine::Stops);
+        }
+        Err(error) => {
+            drop(name);
+            drop(stack);
+            return Err(error);
+        }
+    };
+    match Boxed::new(alloc, items) {
+        Ok(items) => Ok(Machine::Holds(
+            stack,
+            Expression::Reference(Reference::Items(name, items)),
+        )),
+        Err(error) => {
+            drop(name);
+            drop(stack);
+            Err(error)
+        }
+    }
+}
+
+/// `name ( items ) ( lower : upper )`
+fn made_behind_items(
+    alloc: Global,
+    name: SharedBytes,
+    items: Boxed<Items<Item>>,
+    fields: Stack<Field>,
+    stack: Stack<Pending>,
+) -> Result<Machine, AllocError>
+    ensures { IfOk result (λ m. m ≡ made (Bracket.Part name items) fields stack) }
+{
+    match made_part(alloc, name, items, fields) {
+        Ok(part) => Ok(holds(stack, part)),
+        Err(error) => {
+            drop(stack);
+            Err(error)
+        }
+    }
+}
+
+/// `(/ values /)`
+fn made_array(
+    alloc: Global,
+    fields: Stack<Field>,
+    stack: Stack<Pending>,
+) -> Result<Machine, AllocError>
+    ensures { IfOk result (λ m. m ≡ made Bracket.Array fields stack) }
+{
+    match values_of(alloc, fields) {
+        Ok(Some(values)) => Ok(Machine::Holds(stack, Expression::Constructor(values))),
+        Ok(None) => {
+            drop(stack);
+            Ok(Machine::Stops)
+        }
+        Err(error) => {
+            drop(stack);
+            Err(error)
+        }
     }
 }
 
@@ -195,20 +358,15 @@ fn made(
 {
     match bracket {
         Bracket::Plain => made_plain(alloc, fields, stack),
-        Bracket::Behind(name) => match items_of(alloc, fields)? {
-            None => Ok(Machine::Stops),
-            Some(items) => Ok(Machine::Holds(
-                stack,
-                Expression::Reference(Reference::Items(name, items)),
-            )),
-        },
-        Bracket::Part(name, items) => Ok(holds(stack, made_part(alloc, name, items, fields)?)),
-        Bracket::Array => match values_of(alloc, fields)? {
-            None => Ok(Machine::Stops),
-            Some(values) => Ok(Machine::Holds(stack, Expression::Constructor(values))),
-        },
+        Bracket::Behind(name) => made_behind(alloc, name, fields, stack),
+        Bracket::Part(name, items) => made_behind_items(alloc, name, items, fields, stack),
+        Bracket::Array => made_array(alloc, fields, stack),
         Bracket::Alone => Ok(alone(fields, stack)),
-        Bracket::Row => Ok(Machine::Stops),
+        Bracket::Row => {
+            drop(fields);
+            drop(stack);
+            Ok(Machine::Stops)
+        }
     }
 }
 
@@ -233,12 +391,18 @@ fn parted(
 ) -> Result<Machine, AllocError>
     ensures { IfOk result (λ m. m ≡ parted bracket fields stack field) }
 {
-    let mut fields = fields;
-    match field {
-        None => Ok(Machine::Stops),
-        Some(field) => {
-            fields.push(field)?;
-            fresh(bracket, fields, stack)
+    let Some(field) = field else {
+        drop(bracket);
+        drop(fields);
+        drop(stack);
+        return Ok(Machine::Stops);
+    };
+    match pushed(fields, field) {
+        Ok(fields) => fresh(bracket, fields, stack),
+        Err(error) => {
+            drop(bracket);
+            drop(stack);
+            Err(error)
         }
     }
 }
@@ -252,12 +416,18 @@ fn closed(
 ) -> Result<Machine, AllocError>
     ensures { IfOk result (λ m. m ≡ closed bracket fields stack field) }
 {
-    let mut fields = fields;
-    match field {
-        None => Ok(Machine::Stops),
-        Some(field) => {
-            fields.push(field)?;
-            made(alloc, bracket, fields, stack)
+    let Some(field) = field else {
+        drop(bracket);
+        drop(fields);
+        drop(stack);
+        return Ok(Machine::Stops);
+    };
+    match pushed(fields, field) {
+        Ok(fields) => made(alloc, bracket, fields, stack),
+        Err(error) => {
+            drop(bracket);
+            drop(stack);
+            Err(error)
         }
     }
 }
@@ -272,7 +442,13 @@ fn with_stage(
     ensures { IfOk result (λ m. m ≡ with_stage bracket fields left stack stage) }
 {
     match stage {
-        None => Ok(Machine::Stops),
+        None => {
+            drop(bracket);
+            drop(fields);
+            drop(left);
+            drop(stack);
+            Ok(Machine::Stops)
+        }
         Some(stage) => open(bracket, fields, left, stage, stack),
     }
 }
@@ -286,9 +462,66 @@ fn with_left(
     ensures { IfOk result (λ m. m ≡ with_left bracket fields stack left) }
 {
     match left {
-        None => Ok(Machine::Stops),
+        None => {
+            drop(bracket);
+            drop(fields);
+            drop(stack);
+            Ok(Machine::Stops)
+        }
         Some(left) => open(bracket, fields, Some(left), Stage::Start, stack),
     }
+}
+
+fn parted_by(ending: Ending, stack: Stack<Pending>) -> Result<Machine, AllocError>
+    ensures { IfOk result (λ m. m ≡ parted ending.bracket ending.fields stack (field_of ending.left ending.stage ending.last)) }
+{
+    let Ending {
+        bracket,
+        fields,
+        left,
+        stage,
+        last,
+    } = ending;
+    parted(bracket, fields, stack, field_of(left, stage, last))
+}
+
+fn coloned_by(ending: Ending, stack: Stack<Pending>) -> Result<Machine, AllocError>
+    ensures { IfOk result (λ m. m ≡ with_stage ending.bracket ending.fields ending.left stack (coloned ending.stage ending.last)) }
+{
+    let Ending {
+        bracket,
+        fields,
+        left,
+        stage,
+        last,
+    } = ending;
+    with_stage(bracket, fields, left, stack, coloned(stage, last))
+}
+
+fn assigned_by(ending: Ending, stack: Stack<Pending>) -> Result<Machine, AllocError>
+    ensures { IfOk result (λ m. m ≡ with_left ending.bracket ending.fields stack (assigned ending.left ending.stage ending.last)) }
+{
+    let Ending {
+        bracket,
+        fields,
+        left,
+        stage,
+        last,
+    } = ending;
+    with_left(bracket, fields, stack, assigned(left, stage, last))
+}
+
+fn closed_by(alloc: Global, ending: Ending, stack: Stack<Pending>) -> Result<Machine, AllocError>
+    ensures { IfOk result (λ m. m ≡ closed ending.bracket ending.fields stack (field_of ending.left ending.stage ending.last)) }
+{
+    let Ending {
+        bracket,
+        fields,
+        left,
+        stage,
+        last,
+    } = ending;
+    closed(alloc, bracket, fields, stack, field_of(left, stage, last))
 }
 
 /// A separator or a closer in a bracket.
@@ -300,25 +533,24 @@ fn separated_in(
 ) -> Result<Machine, AllocError>
     ensures { IfOk result (λ m. m ≡ separated_in ending.bracket ending.fields ending.left ending.stage stack ending.last mark) }
 {
-    let Ending {
-        bracket,
-        fields,
-        left,
-        stage,
-        last,
-    } = ending;
     match mark {
-        Punctuation::Comma => parted(bracket, fields, stack, field_of(left, stage, last)),
-        Punctuation::Colon => with_stage(bracket, fields, left, stack, coloned(stage, last)),
-        Punctuation::Assign => with_left(bracket, fields, stack, assigned(left, stage, last)),
+        Punctuation::Comma => parted_by(ending, stack),
+        Punctuation::Colon => coloned_by(ending, stack),
+        Punctuation::Assign => assigned_by(ending, stack),
         Punctuation::Close | Punctuation::CloseArray => {
-            if is_closed_by(&bracket, mark) {
-                closed(alloc, bracket, fields, stack, field_of(left, stage, last))
+            if is_closed_by(&ending.bracket, mark) {
+                closed_by(alloc, ending, stack)
             } else {
+                drop(ending);
+                drop(stack);
                 Ok(Machine::Stops)
             }
         }
-        _ => Ok(Machine::Stops),
+        _ => {
+            drop(ending);
+            drop(stack);
+            Ok(Machine::Stops)
+        }
     }
 }
 
@@ -327,9 +559,19 @@ fn ending_of(pending: Option<Pending>, last: Option<Value>) -> Option<Ending>
     ensures { result ≡ ending_of pending last }
 {
     match pending {
-        None => None,
-        Some(Pending::Left(..)) => None,
-        Some(Pending::Before(_)) => None,
+        None => {
+            drop(last);
+            None
+        }
+        Some(Pending::Left(left, _)) => {
+            drop(left);
+            drop(last);
+            None
+        }
+        Some(Pending::Before(_)) => {
+            drop(last);
+            None
+        }
         Some(Pending::Open(bracket, fields, left, stage)) => Some(Ending {
             bracket,
             fields,
@@ -351,7 +593,10 @@ fn separated(
     let mut stack = stack;
     let pending = stack.pop();
     match ending_of(pending, last) {
-        None => Ok(Machine::Stops),
+        None => {
+            drop(stack);
+            Ok(Machine::Stops)
+        }
         Some(ending) => separated_in(alloc, ending, stack, mark),
     }
 }
@@ -376,17 +621,46 @@ fn first_operator(stack: Stack<Pending>, operator: Operator) -> Result<Machine, 
     match operator {
         Operator::Add => signed(Sign::Plus, stack),
         Operator::Subtract => signed(Sign::Minus, stack),
-        _ => Ok(Machine::Stops),
+        _ => {
+            drop(stack);
+            Ok(Machine::Stops)
+        }
     }
 }
 
-fn copy_literal(alloc: Global, literal: &Literal) -> Result<Literal, AllocError>
+fn copy_literal(literal: &Literal) -> Result<Literal, AllocError>
     ensures { IfOk result (λ copy. copy ≡ literal.now) }
 {
     match literal {
         Literal::Number(number) => Ok(Literal::Number(*number)),
-        Literal::Text(text) => Ok(Literal::Text(text.copy(alloc)?)),
+        Literal::Text(text) => Ok(Literal::Text(text.share()?)),
         Literal::Logical(value) => Ok(Literal::Logical(*value)),
+    }
+}
+
+/// A literal in the place of an operand.
+fn literal_step(stack: Stack<Pending>, literal: &Literal) -> Result<Machine, AllocError>
+    ensures { IfOk result (λ m. m ≡ Machine.Holds stack (Expression.Literal literal.now)) }
+{
+    match copy_literal(literal) {
+        Ok(literal) => Ok(Machine::Holds(stack, Expression::Literal(literal))),
+        Err(error) => {
+            drop(stack);
+            Err(error)
+        }
+    }
+}
+
+/// A name in the place of an operand.
+fn name_step(stack: Stack<Pending>, name: &SharedBytes) -> Result<Machine, AllocError>
+    ensures { IfOk result (λ m. m ≡ Machine.Holds stack (Expression.Reference (Reference.Whole name.now))) }
+{
+    match name.share() {
+        Ok(name) => Ok(Machine::Holds(stack, Expression::Reference(Reference::Whole(name)))),
+        Err(error) => {
+            drop(stack);
+            Err(error)
+        }
     }
 }
 
@@ -399,18 +673,36 @@ fn first_step(
     ensures { IfOk result (λ m. m ≡ first_step stack terminal.now) }
 {
     match terminal {
-        Terminal::Literal(literal) => {
-            let literal = copy_literal(alloc, literal)?;
-            Ok(Machine::Holds(stack, Expression::Literal(literal)))
-        }
-        Terminal::Name(name) => {
-            let name = name.copy(alloc)?;
-            Ok(Machine::Holds(stack, Expression::Reference(Reference::Whole(name))))
-        }
+        Terminal::Literal(literal) => literal_step(stack, literal),
+        Terminal::Name(name) => name_step(stack, name),
         Terminal::Operator(operator) => first_operator(stack, *operator),
         Terminal::Not => signed(Sign::Not, stack),
         Terminal::Punctuation(mark) => first_mark(alloc, stack, *mark),
-        _ => Ok(Machine::Stops),
+        _ => {
+            drop(stack);
+            Ok(Machine::Stops)
+        }
+    }
+}
+
+/// An opening bracket behind a reference.
+fn opened_behind(
+    alloc: Global,
+    stack: Stack<Pending>,
+    reference: Reference,
+) -> Result<Machine, AllocError>
+    ensures { IfOk result (λ m. m ≡ next_mark stack (Expression.Reference reference) Punctuation.Open) }
+{
+    match reference {
+        Reference::Whole(name) => fresh(Bracket::Behind(name), Stack::new(alloc), stack),
+        Reference::Items(name, items) => {
+            fresh(Bracket::Part(name, items), Stack::new(alloc), stack)
+        }
+        other => {
+            drop(other);
+            drop(stack);
+            Ok(Machine::Stops)
+        }
     }
 }
 
@@ -419,15 +711,12 @@ fn opened(alloc: Global, stack: Stack<Pending>, operand: Expression) -> Result<M
     ensures { IfOk result (λ m. m ≡ next_mark stack operand Punctuation.Open) }
 {
     match operand {
-        Expression::Reference(Reference::Whole(name)) => fresh(
-            Bracket::Behind(name),
-            Stack::new(alloc),
-            stack,
-        ),
-        Expression::Reference(Reference::Items(name, items)) => {
-            fresh(Bracket::Part(name, items), Stack::new(alloc), stack)
+        Expression::Reference(reference) => opened_behind(alloc, stack, reference),
+        other => {
+            drop(other);
+            drop(stack);
+            Ok(Machine::Stops)
         }
-        _ => Ok(Machine::Stops),
     }
 }
 
@@ -470,7 +759,11 @@ fn next_step(
             operated(*operator, held)
         }
         Terminal::Punctuation(mark) => next_mark(alloc, stack, operand, *mark),
-        _ => Ok(Machine::Stops),
+        _ => {
+            drop(stack);
+            drop(operand);
+            Ok(Machine::Stops)
+        }
     }
 }
 
@@ -485,7 +778,11 @@ fn did_step(
 {
     match terminal {
         Terminal::Punctuation(mark) => separated(alloc, stack, Some(value), *mark),
-        _ => Ok(Machine::Stops),
+        _ => {
+            drop(stack);
+            drop(value);
+            Ok(Machine::Stops)
+        }
     }
 }
 
@@ -496,7 +793,10 @@ pub fn step(alloc: Global, machine: Machine, terminal: &Terminal) -> Result<Mach
         Machine::Waits(stack) => first_step(alloc, stack, terminal),
         Machine::Holds(stack, operand) => next_step(alloc, stack, operand, terminal),
         Machine::Did(stack, value) => did_step(alloc, stack, value, terminal),
-        Machine::Closed(_) => Ok(Machine::Stops),
+        Machine::Closed(fields) => {
+            drop(fields);
+            Ok(Machine::Stops)
+        }
         Machine::Stops => Ok(Machine::Stops),
     }
 }
@@ -508,11 +808,13 @@ fn with_field(
 ) -> Result<Option<Stack<Field>>, AllocError>
     ensures { IfOk result (λ all. all ≡ option_map (λ f. f ∷ fields) field) }
 {
-    let mut fields = fields;
     match field {
-        None => Ok(None),
+        None => {
+            drop(fields);
+            Ok(None)
+        }
         Some(field) => {
-            fields.push(field)?;
+            let fields = pushed(fields, field)?;
             Ok(Some(fields))
         }
     }
@@ -535,8 +837,14 @@ fn row_ending(ending: Ending) -> Result<Option<Stack<Field>>, AllocError>
         last,
     } = ending;
     if is_row(&bracket) {
+        drop(bracket);
         with_field(fields, field_of(left, stage, last))
     } else {
+        drop(bracket);
+        drop(fields);
+        drop(left);
+        drop(stage);
+        drop(last);
         Ok(None)
     }
 }
@@ -549,11 +857,19 @@ fn row_of(stack: Stack<Pending>, last: Option<Value>) -> Result<Option<Stack<Fie
     let mut stack = stack;
     let pending = stack.pop();
     let Some(ending) = ending_of(pending, last) else {
+        drop(stack);
         return Ok(None);
     };
     match stack.top() {
-        Some(_) => Ok(None),
-        None => row_ending(ending),
+        Some(_) => {
+            drop(stack);
+            drop(ending);
+            Ok(None)
+        }
+        None => {
+            drop(stack);
+            row_ending(ending)
+        }
     }
 }
 
@@ -567,7 +883,10 @@ pub fn ended_row(alloc: Global, machine: Machine) -> Result<Option<Stack<Field>>
             row_of(stack, Some(Value::One(expression)))
         }
         Machine::Did(stack, value) => row_of(stack, Some(value)),
-        Machine::Closed(_) => Ok(None),
+        Machine::Closed(fields) => {
+            drop(fields);
+            Ok(None)
+        }
         Machine::Stops => Ok(None),
     }
 }

@@ -1,8 +1,11 @@
 //! What the machine has read: fields, and what is still open.
 
-use a95_base::{Bytes, Stack};
+ghost use Rattle.std.specs.Prelude.{◌≡◌, ◌∷◌, IfOk};
+
+use a95_base::{SharedBytes, Stack};
 use f95_tree::{Expression, Item, Operator, Sign, Value};
-use sqlite_items::Items;
+use sqlite_items::{Boxed, Items};
+use std::alloc::AllocError;
 
 /// What stands between two commas: `left = spread`, or the spread alone.
 #[derive(Drop)]
@@ -25,9 +28,9 @@ pub enum Bracket {
     /// `( .. )` that begins an operand: an expression, or an implied DO
     Plain,
     /// `name ( .. )`
-    Behind(Bytes),
+    Behind(SharedBytes),
     /// `name ( items ) ( .. )`
-    Part(Bytes, Items<Item>),
+    Part(SharedBytes, Boxed<Items<Item>>),
     /// `(/ .. /)`
     Array,
     /// `( .. )` that a statement asks for
@@ -84,4 +87,18 @@ pub struct Ending {
     pub left: Option<Expression>,
     pub stage: Stage,
     pub last: Option<Value>,
+}
+
+/// A stack with one more item.
+pub fn pushed<T: Drop>(stack: Stack<T>, item: T) -> Result<Stack<T>, AllocError>
+    ensures { IfOk result (λ pushed. pushed ≡ item ∷ stack) }
+{
+    let mut stack = stack;
+    match stack.push(item) {
+        Ok(()) => Ok(stack),
+        Err(error) => {
+            drop(stack);
+            Err(error)
+        }
+    }
 }

@@ -39,9 +39,20 @@ fn closed_at(machine: Machine, rest: &[Terminal]) -> Option<Closed<'_>>
 {
     match machine {
         Machine::Closed(fields) => Some(Closed { fields, rest }),
-        Machine::Waits(_) => None,
-        Machine::Holds(..) => None,
-        Machine::Did(..) => None,
+        Machine::Waits(stack) => {
+            drop(stack);
+            None
+        }
+        Machine::Holds(stack, operand) => {
+            drop(stack);
+            drop(operand);
+            None
+        }
+        Machine::Did(stack, value) => {
+            drop(stack);
+            drop(value);
+            None
+        }
         Machine::Stops => None,
     }
 }
@@ -54,7 +65,8 @@ fn parted(terminals: &[Terminal]) -> Option<(&Terminal, &[Terminal])>
 
 /// One more terminal, unless the bracket is closed or nothing is left.
 fn next<'a>(machine: &Machine, terminals: &'a [Terminal]) -> Option<(&'a Terminal, &'a [Terminal])>
-    ensures { MatchOption result ((is_closed machine.now ≡ true) ⊎ (terminals.now ≡ [])) (λ p. (is_closed machine.now ≡ false) × (terminals.now ≡ p.0.now ∷ p.1.now)) }
+    ensures { MatchOption result ((is_closed machine.now ≡ true) ⊎ (terminals.now ≡ []))
+        (λ p. (is_closed machine.now ≡ false) × (terminals.now ≡ p.0.now ∷ p.1.now)) }
 {
     if is_closed(machine) {
         None

@@ -199,7 +199,7 @@ cuts bytes none = ⊎_elim
     (cases_lt 1048576 (length bytes))
 
 pub cut_by : (bytes : List ℕ) (r : Result Statements PhaseError) → length bytes ≤ 1048576 → IfOk r (λ s. breaks_of bytes ≡ [])
-    → IfOk r (λ s. s.list ≡ statements_of (items_of (lexemes_of bytes))) → IfOk r (λ s. s.feeds ≡ feeds_of bytes)
-    → IfOk r (λ s. Cuts bytes s.list s.feeds)
-cut_by bytes (Ok s) short none list feeds = unbroken_cuts bytes s.list s.feeds short none list feeds
+    → IfOk r (λ s. s.list.items ≡ statements_of (items_of (lexemes_of bytes))) → IfOk r (λ s. s.feeds ≡ feeds_of bytes)
+    → IfOk r (λ s. Cuts bytes s.list.items s.feeds)
+cut_by bytes (Ok s) short none list feeds = unbroken_cuts bytes s.list.items s.feeds short none list feeds
 cut_by bytes (Err e) short none list feeds = tt

@@ -199,7 +199,8 @@ are_listed bytes short = record {
 
 pub first_listed : (bytes : List ℕ) (line rule : ℕ) → length bytes ≤ 1048576
     → first_of (breaks_of bytes) ≡ Some (broken_at line rule) → IsLeast (IsBroken bytes) line rule
-first_listed bytes line rule short e = first_is_least (IsBroken bytes) (breaks_of bytes) (broken_at line rule) (are_listed bytes short) e
+first_listed bytes line rule short e = first_is_least (IsBroken bytes) (breaks_of bytes) (broken_at line rule)
+    (are_listed bytes short) e
 
 record IsPlaced (p : Placed) : Type 0 where
   counted : 1 ≤ p.line

@@ -7,7 +7,8 @@ ghost use Rattle.f95_lexer.specs.Statements.{with_statement, first_line, read_on
 use crate::character::Character;
 use crate::lexeme::{Lexeme, is_dotted, lexeme_at};
 use crate::token::{Statement, Token};
-use a95_base::{Break, LONGEST_WORD, Line, Rule};
+use crate::words::Words;
+use a95_base::{Break, LONGEST_WORD, Line, Rule, SharedBytes};
 use sqlite_items::Items;
 use std::alloc::{AllocError, Global};
 use std::mem;
@@ -15,10 +16,11 @@ use std::mem;
 /// The statements and the broken rules so far, and the tokens of a statement that isn't ended.
 #[derive(Drop)]
 pub struct Gatherer {
-    pub list: Items<Statement>,
+    pub list: Vec<Statement>,
     /// The line of the first of the tokens.
     line: u32,
     tokens: Items<Token>,
+    words: Words,
     pub breaks: Vec<Break>,
 }
 
@@ -26,7 +28,7 @@ impl Gatherer {
     fn token(&mut self, line: u32, token: Token) -> Result<(), AllocError>
         ensures tokens { OnOk result (self.new.tokens ≡ self.old.tokens ++ token ∷ []) }
         ensures line { OnOk result (self.new.line ≡ first_line self.old.line self.old.tokens line) }
-        ensures list { self.new.list ≡ self.old.list }
+        ensures list { self.new.list.items ≡ self.old.list.items }
         ensures breaks { self.new.breaks.items ≡ self.old.breaks.items }
     {
         if self.tokens.is_empty() {
@@ -36,7 +38,7 @@ impl Gatherer {
     }
 
     fn end(&mut self, alloc: Global) -> Result<(), AllocError>
-        ensures list { OnOk result (self.new.list ≡ self.old.list ++ with_statement self.old.line self.old.tokens []) }
+        ensures list { OnOk result (self.new.list.items ≡ self.old.list.items ++ with_statement self.old.line self.old.tokens []) }
         ensures tokens { OnOk result (self.new.tokens ≡ []) }
         ensures line { self.new.line ≡ self.old.line }
         ensures breaks { self.new.breaks.items ≡ self.old.breaks.items }
@@ -48,12 +50,13 @@ impl Gatherer {
         self.list.push(Statement {
             line: Line(self.line),
             tokens,
-        })
+        })?;
+        Ok(())
     }
 
     fn note(&mut self, line: u32, rule: Rule) -> Result<(), AllocError>
         ensures breaks { OnOk result (self.new.breaks.items ≡ self.old.breaks.items ++ broken_at line rule.0 ∷ []) }
-        ensures list { self.new.list ≡ self.old.list }
+        ensures list { self.new.list.items ≡ self.old.list.items }
         ensures line { self.new.line ≡ self.old.line }
         ensures tokens { self.new.tokens ≡ self.old.tokens }
     {
@@ -62,8 +65,8 @@ impl Gatherer {
     }
 
     fn number(&mut self, line: u32, value: Option<i32>, clings: bool) -> Result<(), AllocError>
-        ensures read { OnOk result (reading self.new.list self.new.line self.new.tokens
-            ≡ read_on (reading self.old.list self.old.line self.old.tokens) (items_at line (Lexeme.Number value clings))) }
+        ensures read { OnOk result (reading self.new.list.items self.new.line self.new.tokens
+            ≡ read_on (reading self.old.list.items self.old.line self.old.tokens) (items_at line (Lexeme.Number value clings))) }
         ensures breaks { OnOk result (self.new.breaks.items
             ≡ self.old.breaks.items ++ map (broken_at line) (rules_of (Lexeme.Number value clings))) }
     {
@@ -79,8 +82,8 @@ impl Gatherer {
 
     /// Takes in what stands on that line next.
     fn take(&mut self, alloc: Global, line: u32, lexeme: Lexeme) -> Result<(), AllocError>
-        ensures read { OnOk result (reading self.new.list self.new.line self.new.tokens
-            ≡ read_on (reading self.old.list self.old.line self.old.tokens) (items_at line lexeme)) }
+        ensures read { OnOk result (reading self.new.list.items self.new.line self.new.tokens
+            ≡ read_on (reading self.old.list.items self.old.line self.old.tokens) (items_at line lexeme)) }
         ensures breaks { OnOk result (self.new.breaks.items ≡ self.old.breaks.items ++ map (broken_at line) (rules_of lexeme)) }
     {
         match lexeme {
@@ -90,14 +93,19 @@ impl Gatherer {
                 if word.len() > LONGEST_WORD {
                     self.note(line, Rule::WORD_TOO_LONG)?;
                 }
+                let word = self.words.shared(alloc, word)?;
                 self.token(line, Token::Word(word))
             }
             Lexeme::Number { value, clings } => self.number(line, value, clings),
-            Lexeme::Text(bytes) => self.token(line, Token::Text(bytes)),
+            Lexeme::Text(bytes) => {
+                let text = SharedBytes::new(alloc, bytes)?;
+                self.token(line, Token::Text(text))
+            }
             Lexeme::Pointed(word) => {
                 if !is_dotted(word.as_slice()) {
                     self.note(line, Rule::UNKNOWN_DOTTED_WORD)?;
                 }
+                let word = self.words.shared(alloc, word)?;
                 self.token(line, Token::Dotted(word))
             }
             Lexeme::Symbol(mark) => self.token(line, Token::Mark(mark)),
@@ -113,8 +121,8 @@ impl Gatherer {
         more: &'a [Character],
     ) -> Result<&'a [Character], AllocError>
         ensures read { IfOk result
-            (λ rest. read_on (reading self.new.list self.new.line self.new.tokens) (items_of (lexemes_behind 0 rest.now))
-            ≡ read_on (reading self.old.list self.old.line self.old.tokens) (items_of (lexemes_behind 0 (first ∷ more.now)))) }
+            (λ rest. read_on (reading self.new.list.items self.new.line self.new.tokens) (items_of (lexemes_behind 0 rest.now))
+            ≡ read_on (reading self.old.list.items self.old.line self.old.tokens) (items_of (lexemes_behind 0 (first ∷ more.now)))) }
         ensures breaks { IfOk result (λ rest. self.new.breaks.items ++ token_breaks (lexemes_behind 0 rest.now)
             ≡ self.old.breaks.items ++ token_breaks (lexemes_behind 0 (first ∷ more.now))) }
         ensures shorter { IfOk result (λ rest. length rest.now ≤ length more.now) }
@@ -138,13 +146,14 @@ fn behind(characters: &[Character], count: usize) -> &[Character]
 
 /// The statements of spliced characters, with the rules that they break added to those of the lines.
 pub fn gather(alloc: Global, text: &[Character], breaks: Vec<Break>) -> Result<Gatherer, AllocError>
-    ensures list { IfOk result (λ g. g.list ≡ statements_of (items_of (lexemes_behind 0 text.now))) }
+    ensures list { IfOk result (λ g. g.list.items ≡ statements_of (items_of (lexemes_behind 0 text.now))) }
     ensures breaks { IfOk result (λ g. g.breaks.items ≡ breaks.items ++ token_breaks (lexemes_behind 0 text.now)) }
 {
     let mut gatherer = Gatherer {
-        list: Items::new(alloc),
+        list: Vec::new(alloc),
         line: 0,
         tokens: Items::new(alloc),
+        words: Words::new(alloc)?,
         breaks,
     };
     let mut rest = text;

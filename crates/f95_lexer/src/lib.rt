@@ -13,6 +13,7 @@ mod limits;
 mod read;
 mod splice;
 mod token;
+mod words;
 
 pub use laws::{cuts_unbroken, one_cut};
 pub use read::read_statements;

@@ -23,7 +23,7 @@ fn feeds_of(bytes: &[u8]) -> usize
 /// The statements of a file that isn't too long.
 fn read(alloc: Global, bytes: &[u8]) -> Result<Statements, PhaseError>
     requires { length bytes.now ≤ 1048576 }
-    ensures list { IfOk result (λ s. s.list ≡ statements_of (items_of (lexemes_of bytes.now))) }
+    ensures list { IfOk result (λ s. s.list.items ≡ statements_of (items_of (lexemes_of bytes.now))) }
     ensures feeds { IfOk result (λ s. s.feeds ≡ feeds_of bytes.now) }
     ensures unbroken { IfOk result (λ _. breaks_of bytes.now ≡ []) }
     ensures refused { IfErr result (λ e. RefusesBy (first_of (breaks_of bytes.now)) e) }
@@ -45,7 +45,7 @@ fn read(alloc: Global, bytes: &[u8]) -> Result<Statements, PhaseError>
 /// The statements of a text, each on the line of its first token, with all comments and continuations taken away.
 /// A refusal says the first line on which a rule of this phase is broken, and the least rule that is broken there.
 pub fn read_statements(alloc: Global, bytes: &[u8]) -> Result<Statements, PhaseError>
-    ensures cut { IfOk result (λ s. Cuts bytes.now s.list s.feeds) }
+    ensures cut { IfOk result (λ s. Cuts bytes.now s.list.items s.feeds) }
     ensures unbroken { OnOk result ((line rule : ℕ) → IsBroken bytes.now line rule → ⊥) }
     ensures refused { IfErr result (Refuses bytes.now) }
 {

@@ -1,5 +1,5 @@
 //! The parts of a statement and the statements of a text.
-use a95_base::{Bytes, Line};
+use a95_base::{Line, SharedBytes};
 use sqlite_items::Items;
 
 /// One symbol.
@@ -51,12 +51,12 @@ pub enum Mark {
 #[derive(Drop)]
 pub enum Token {
     /// A name or a keyword, in lower case.
-    Word(Bytes),
+    Word(SharedBytes),
     Number(i32),
     /// What stands between the delimiters of a character literal, a doubled delimiter once.
-    Text(Bytes),
+    Text(SharedBytes),
     /// What stands between the two points of a dotted word such as `.EQ.`, in lower case.
-    Dotted(Bytes),
+    Dotted(SharedBytes),
     Mark(Mark),
 }
 
@@ -71,7 +71,7 @@ pub struct Statement {
 /// All statements of a text, in its order.
 #[derive(Drop)]
 pub struct Statements {
-    pub list: Items<Statement>,
+    pub list: Vec<Statement>,
     /// How many line feeds the text has.
     pub feeds: u32,
 }

@@ -20,9 +20,13 @@ use Rattle.f95_nesting.specs.declared.open.Frame.{Frame}
 use Rattle.f95_nesting.specs.declared.open.WhereFrame.{WhereFrame}
 use Rattle.f95_nesting.specs.declared.open.WherePart.{WherePart}
 use Rattle.f95_nesting.specs.Placed.{Context}
-use Rattle.f95_nesting.specs.Machine.{in_if, in_else_if, in_else, in_select, in_do, block_move, statements_move, select_move, parted_where, where_block_move, where_action_move, where_move, forall_block_move, forall_action_move, forall_move}
+use Rattle.f95_nesting.specs.Machine.{in_if, in_else_if, in_else, in_select, in_do, block_move, statements_move, select_move}
+use Rattle.f95_nesting.specs.Machine.{parted_where, where_block_move, where_action_move, where_move, forall_block_move}
+use Rattle.f95_nesting.specs.Machine.{forall_action_move, forall_move}
 use Rattle.f95_nesting.specs.Kinds.{with_part}
-use Rattle.f95_nesting.specs.Roles.{body_form, opening_form, block_by, statements_by, if_part, if_by, end_of_if, else_by, select_part, select_form, select_by, end_of_do, do_by, where_part, where_action, where_form, where_by, forall_part, forall_action, forall_form, forall_by}
+use Rattle.f95_nesting.specs.Roles.{body_form, opening_form, block_by, statements_by, if_part, if_by, end_of_if, else_by}
+use Rattle.f95_nesting.specs.Roles.{select_part, select_form, select_by, end_of_do, do_by, where_part, where_action, where_form}
+use Rattle.f95_nesting.specs.Roles.{where_by, forall_part, forall_action, forall_form, forall_by}
 
 -- the body of IF is that before no ELSE IFs
 pub first_body : (outer : List Frame) (before : List Statement) (h : IfHead) (done : List Statement) (l : Line) (b : BlockForm)
@@ -71,7 +75,8 @@ pub parted_as : (outer : List Frame) (before : List Statement) (wheres : List Wh
 parted_as outer before wheres w None = refl
 parted_as outer before wheres w (Some p) = refl
 
-where_block_by : (outer : List Frame) (before : List Statement) (wheres : List WhereFrame) (w : WhereFrame) (l : Line) (b : BlockForm)
+where_block_by : (outer : List Frame) (before : List Statement) (wheres : List WhereFrame) (w : WhereFrame) (l : Line)
+    (b : BlockForm)
     → where_block_move outer before wheres w l b ≡ where_by outer before wheres w l (where_part b)
 where_block_by outer before wheres w l (block_of.Where m) = refl
 where_block_by outer before wheres w l _ = refl
@@ -87,17 +92,20 @@ where_move_by outer before wheres w l (of.Action a) = where_action_by outer befo
 where_move_by outer before wheres w l (of.Block b) = where_block_by outer before wheres w l b
 where_move_by outer before wheres w l _ = refl
 
-forall_block_by : (outer : List Frame) (before : List Statement) (k : Line) (h : Header) (done : List (Line × Assignment)) (l : Line)
+forall_block_by : (outer : List Frame) (before : List Statement) (k : Line) (h : Header) (done : List (Line × Assignment))
+    (l : Line)
     (b : BlockForm) → forall_block_move outer before k h done l b ≡ forall_by outer before k h done l (forall_part b)
 forall_block_by outer before k h done l block_of.EndForall = refl
 forall_block_by outer before k h done l _ = refl
 
-forall_action_by : (outer : List Frame) (before : List Statement) (k : Line) (h : Header) (done : List (Line × Assignment)) (l : Line)
+forall_action_by : (outer : List Frame) (before : List Statement) (k : Line) (h : Header) (done : List (Line × Assignment))
+    (l : Line)
     (a : Action) → forall_action_move outer before k h done l a ≡ forall_by outer before k h done l (forall_action a)
 forall_action_by outer before k h done l (act.Assignment a) = refl
 forall_action_by outer before k h done l _ = refl
 
-pub forall_move_by : (outer : List Frame) (before : List Statement) (k : Line) (h : Header) (done : List (Line × Assignment)) (l : Line)
+pub forall_move_by : (outer : List Frame) (before : List Statement) (k : Line) (h : Header) (done : List (Line × Assignment))
+    (l : Line)
     (f : Form) → forall_move outer before k h done l f ≡ forall_by outer before k h done l (forall_form f)
 forall_move_by outer before k h done l (of.Action a) = forall_action_by outer before k h done l a
 forall_move_by outer before k h done l (of.Block b) = forall_block_by outer before k h done l b

@@ -33,11 +33,13 @@ mark_stands state.Stops l f = refl
 
 pub forms_marks : (fs : List Lined) (s : State) → forms_of (marks s fs) ≡ fs
 forms_marks [] s = refl
-forms_marks (f ∷ fs) s = ap (λ z. z ∷ forms_of (marks (move s f.0 f.1) fs)) (bare_mark s f.0 f.1) ∙ ap (λ z. f ∷ z) (forms_marks fs (move s f.0 f.1))
+forms_marks (f ∷ fs) s = ap (λ z. z ∷ forms_of (marks (move s f.0 f.1) fs)) (bare_mark s f.0 f.1)
+    ∙ ap (λ z. f ∷ z) (forms_marks fs (move s f.0 f.1))
 
 pub marks_stand : (fs : List Lined) (s : State) → all_stand (marks s fs) ≡ true
 marks_stand [] s = refl
-marks_stand (f ∷ fs) s = ap (λ z. z && all_stand (marks (move s f.0 f.1) fs)) (mark_stands s f.0 f.1) ∙ marks_stand fs (move s f.0 f.1)
+marks_stand (f ∷ fs) s = ap (λ z. z && all_stand (marks (move s f.0 f.1) fs)) (mark_stands s f.0 f.1)
+    ∙ marks_stand fs (move s f.0 f.1)
 
 -- the state has this text, unless the machine stopped
 abbrev pub Has : State → Text → Type 0
@@ -54,14 +56,18 @@ has_now (state.Ended s) = sym (append-nil (source_text s))
 has_now state.Stops = tt
 
 -- a statement more, and the rest
-has_more : (r : State) (t : Text) (p : Placed) (fs : List Lined) → Extends t p r → Has (run r fs) (state_text r ++ marks r fs) → Has (run r fs) (t ++ p ∷ marks r fs)
-has_more (state.Goes ms q) t p fs e h = subst (λ z. Has (run (state.Goes ms q) fs) z) (ap (λ z. z ++ marks (state.Goes ms q) fs) e ∙ append_assoc t (p ∷ []) (marks (state.Goes ms q) fs)) h
-has_more (state.Ended s) t p fs e h = subst (λ z. Has (run (state.Ended s) fs) z) (ap (λ z. z ++ marks (state.Ended s) fs) e ∙ append_assoc t (p ∷ []) (marks (state.Ended s) fs)) h
+has_more : (r : State) (t : Text) (p : Placed) (fs : List Lined) → Extends t p r → Has (run r fs) (state_text r ++ marks r fs) →
+    Has (run r fs) (t ++ p ∷ marks r fs)
+has_more (state.Goes ms q) t p fs e h = subst (λ z. Has (run (state.Goes ms q) fs) z)
+    (ap (λ z. z ++ marks (state.Goes ms q) fs) e ∙ append_assoc t (p ∷ []) (marks (state.Goes ms q) fs)) h
+has_more (state.Ended s) t p fs e h = subst (λ z. Has (run (state.Ended s) fs) z)
+    (ap (λ z. z ++ marks (state.Ended s) fs) e ∙ append_assoc t (p ∷ []) (marks (state.Ended s) fs)) h
 has_more state.Stops t p fs e h = has_stopped fs (t ++ p ∷ marks state.Stops fs)
 
 has_run : (fs : List Lined) (s : State) → Has (run s fs) (state_text s ++ marks s fs)
 has_run [] s = has_now s
-has_run (f ∷ fs) (state.Goes ms p) = has_more (move (state.Goes ms p) f.0 f.1) (state_text (state.Goes ms p)) (mark p f.0 f.1) fs (extends ms p f.0 f.1) (has_run fs (move (state.Goes ms p) f.0 f.1))
+has_run (f ∷ fs) (state.Goes ms p) = has_more (move (state.Goes ms p) f.0 f.1) (state_text (state.Goes ms p)) (mark p f.0 f.1) fs
+    (extends ms p f.0 f.1) (has_run fs (move (state.Goes ms p) f.0 f.1))
 has_run (f ∷ fs) (state.Ended s) = has_stopped fs _
 has_run (f ∷ fs) state.Stops = has_stopped fs _
 
@@ -71,7 +77,8 @@ text_read fs s is = subst (λ r. Has r (marks start fs)) is (has_run fs start)
 
 -- what was read nests
 pub read_nests : (fs : List Lined) (s : Source) → run start fs ≡ state.Ended s → Nests fs s
-read_nests fs s is = let t = text_read fs s is in record { printed = ap forms_of t ∙ forms_marks fs start; stand = ap all_stand t ∙ marks_stand fs start }
+read_nests fs s is = let t = text_read fs s is in
+    record { printed = ap forms_of t ∙ forms_marks fs start; stand = ap all_stand t ∙ marks_stand fs start }
 
 -- what nests is read
 pub nests_read : (fs : List Lined) (s : Source) → Nests fs s → run start fs ≡ state.Ended s
@@ -95,7 +102,8 @@ ended_begins fs s is = record { more = []; source = s; nests = read_nests (fs ++
 -- where it stops, none begins
 pub stopped_begins_none : (fs : List Lined) → run start fs ≡ state.Stops → Begins fs → ⊥
 stopped_begins_none fs is b =
-    let e : state.Stops ≡ state.Ended b.source = sym (stops_stay b.more) ∙ ap (λ z. run z b.more) (sym is) ∙ sym (run_append fs b.more start) ∙ nests_read (fs ++ b.more) b.source b.nests in
+    let e : state.Stops ≡ state.Ended b.source = sym (stops_stay b.more) ∙ ap (λ z. run z b.more) (sym is)
+    ∙ sym (run_append fs b.more start) ∙ nests_read (fs ++ b.more) b.source b.nests in
     absurd (cc)
 
 -- the same, by what the machine has reached

@@ -23,7 +23,8 @@ parts_empty (x ∷ xs) ys h = absurd (cc)
 
 step_goes : (s r : State) (f : Lined) → move s f.0 f.1 ≡ r → (s ≡ state.Stops → ⊥) → step_breaks s f ≡ [] → r ≡ state.Stops → ⊥
 step_goes (state.Goes ms p) r f moves goes none stops =
-    let e : then_breaks (mark p f.0 f.1) state.Stops ≡ [] = ap (then_breaks (mark p f.0 f.1)) (sym (moves ∙ stops)) ∙ none in absurd (cc)
+    let e : then_breaks (mark p f.0 f.1) state.Stops ≡ [] = ap (then_breaks (mark p f.0 f.1)) (sym (moves ∙ stops)) ∙ none in
+    absurd (cc)
 step_goes (state.Ended x) r f moves goes none stops = absurd (cc)
 step_goes state.Stops r f moves goes none stops = goes refl
 
@@ -37,7 +38,8 @@ pub record Nested (forms : List Lined) : Type 0 where
   pub source : Source
   pub nests : Nests forms source
 
-nested_at : (forms : List Lined) (feeds : ℕ) (s : State) → run start forms ≡ s → (s ≡ state.Stops → ⊥) → end_breaks feeds s ≡ [] → Nested forms
+nested_at : (forms : List Lined) (feeds : ℕ) (s : State) → run start forms ≡ s → (s ≡ state.Stops → ⊥) → end_breaks feeds s ≡ [] →
+    Nested forms
 nested_at forms feeds (state.Goes ms p) is goes none = absurd (cc)
 nested_at forms feeds (state.Ended x) is goes none = record { source = x; nests = read_nests forms x is }
 nested_at forms feeds state.Stops is goes none = absurd (goes refl)
@@ -57,5 +59,6 @@ are_noted forms feeds = record {
 }
 
 -- so the first that is noted is the least
-pub first_noted : (forms : List Lined) (feeds : ℕ) (f : Break) → first_of (breaks forms feeds) ≡ Some f → IsLeast (IsBroken forms feeds) f.line f.rule
+pub first_noted : (forms : List Lined) (feeds : ℕ) (f : Break) → first_of (breaks forms feeds) ≡ Some f →
+    IsLeast (IsBroken forms feeds) f.line f.rule
 first_noted forms feeds f e = first_is_least (IsBroken forms feeds) (breaks forms feeds) f (are_noted forms feeds) e

@@ -16,7 +16,8 @@ noted false b = []
 
 -- those of a statement in its place
 abbrev pub place_breaks : Placed → List Break
-place_breaks p = noted p.misnamed (broken_at p.line.0 wrong_construct_name) ++ noted (nat_lt most_blocks p.depth) (broken_at p.line.0 too_many_blocks)
+place_breaks p = noted p.misnamed (broken_at p.line.0 wrong_construct_name)
+    ++ noted (nat_lt most_blocks p.depth) (broken_at p.line.0 too_many_blocks)
 
 -- those of a statement, by what the machine then is
 abbrev pub then_breaks : Placed → State → List Break

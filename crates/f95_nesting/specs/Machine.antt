@@ -1,5 +1,6 @@
 -- The machine that nests forms: one statement a step, with what is open and what stands before it.
-use Rattle.std.specs.Prelude.{ℕ, suc, Bool, true, false, not, ◌&&◌, ◌||◌, List, [], ◌∷◌, ◌++◌, map, Option, Some, None, if◌then◌else◌}
+use Rattle.std.specs.Prelude.{ℕ, suc, Bool, true, false, not, ◌&&◌, ◌||◌, List, [], ◌∷◌, ◌++◌, map, Option, Some, None}
+use Rattle.std.specs.Prelude.{if◌then◌else◌}
 use Rattle.a95_base.specs.declared.source.Line.{Line}
 use Rattle.f95_tree.specs.Forms.{Word}
 use Rattle.f95_tree.specs.declared.terminal.UnitWord.{UnitWord}
@@ -51,7 +52,8 @@ use Rattle.f95_nesting.specs.declared.open.Place.TheVariants as place
 use Rattle.f95_nesting.specs.declared.open.State.{State}
 use Rattle.f95_nesting.specs.declared.open.State.TheVariants as state
 use Rattle.f95_nesting.specs.Lists.{some, is_absent}
-use Rattle.f95_nesting.specs.Placed.{Placed, placed, outside, differs, Context, deeper, inside_do, action_stands, Range, case_range, in_main, in_procedure, may_end, is_filled, heading_word, heading_name, program_name}
+use Rattle.f95_nesting.specs.Placed.{Placed, placed, outside, differs, Context, deeper, inside_do, action_stands, Range, case_range}
+use Rattle.f95_nesting.specs.Placed.{in_main, in_procedure, may_end, is_filled, heading_word, heading_name, program_name}
 use Rattle.f95_nesting.specs.Nesting.{Lined}
 
 -- What is open.
@@ -197,7 +199,8 @@ has_default cases = seen_after false (map case_range cases)
 
 -- a CASE behind these
 abbrev pub next_case : List Frame → List Statement → SelectHead → List Case → CaseHead → Option Body
-next_case outer before h cases k = only_if (not (is_absent k.ranges && has_default cases)) (open_block outer before (block.Case h cases k))
+next_case outer before h cases k = only_if (not (is_absent k.ranges && has_default cases))
+    (open_block outer before (block.Case h cases k))
 
 abbrev pub in_if : List Frame → List Statement → IfHead → List Statement → Line → BlockForm → Option Body
 in_if outer before h done l (block_of.ElseIf e n) = Some (open_block outer before (block.ElseIf h done [] (branch_head l e n)))
@@ -206,13 +209,16 @@ in_if outer before h done l (block_of.EndIf n) = Some (more outer before (if_blo
 in_if outer before h done l _ = None
 
 abbrev pub in_else_if : List Frame → List Statement → IfHead → List Statement → List Branch → Line → BlockForm → Option Body
-in_else_if outer before h first branches l (block_of.ElseIf e n) = Some (open_block outer before (block.ElseIf h first branches (branch_head l e n)))
+in_else_if outer before h first branches l (block_of.ElseIf e n) =
+    Some (open_block outer before (block.ElseIf h first branches (branch_head l e n)))
 in_else_if outer before h first branches l (block_of.Else n) = Some (open_block outer before (block.Else h first branches l n))
 in_else_if outer before h first branches l (block_of.EndIf n) = Some (more outer before (if_block h first branches None l n))
 in_else_if outer before h first branches l _ = None
 
-abbrev pub in_else : List Frame → List Statement → IfHead → List Statement → List Branch → Otherwise → Line → BlockForm → Option Body
-in_else outer before h first branches other l (block_of.EndIf n) = Some (more outer before (if_block h first branches (Some other) l n))
+abbrev pub in_else : List Frame → List Statement → IfHead → List Statement → List Branch → Otherwise → Line → BlockForm →
+    Option Body
+in_else outer before h first branches other l (block_of.EndIf n) =
+    Some (more outer before (if_block h first branches (Some other) l n))
 in_else outer before h first branches other l _ = None
 
 abbrev pub in_select : List Frame → List Statement → SelectHead → List Case → Line → BlockForm → Option Body
@@ -222,13 +228,15 @@ in_select outer before h cases l (block_of.EndSelect n) = Some (more outer befor
 in_select outer before h cases l _ = None
 
 abbrev pub in_do : List Frame → List Statement → DoHead → List Statement → Line → BlockForm → Option Body
-in_do outer before h done l (block_of.EndDo n) = Some (more outer before (statement.Do h.line h.name h.control done (ending l None n)))
+in_do outer before h done l (block_of.EndDo n) =
+    Some (more outer before (statement.Do h.line h.name h.control done (ending l None n)))
 in_do outer before h done l _ = None
 
 -- a statement that parts or ends the innermost block
 abbrev pub in_block : List Frame → List Statement → Block → List Statement → Line → BlockForm → Option Body
 in_block outer before (block.If h) done l b = in_if outer before h done l b
-in_block outer before (block.ElseIf h first branches k) done l b = in_else_if outer before h first (branches ++ branch_of k done ∷ []) l b
+in_block outer before (block.ElseIf h first branches k) done l b =
+    in_else_if outer before h first (branches ++ branch_of k done ∷ []) l b
 in_block outer before (block.Else h first branches m n) done l b = in_else outer before h first branches (otherwise_of m n done) l b
 in_block outer before (block.Case h cases k) done l b = in_select outer before h (cases ++ case_of k done ∷ []) l b
 in_block outer before (block.Do h) done l b = in_do outer before h done l b
@@ -243,7 +251,8 @@ where_frame l m p done = record { line = l; mask = m; part = p; done = done }
 abbrev pub block_move : List Frame → List Statement → Line → BlockForm → Option Body
 block_move outer done l (block_of.If n e) = Some (open_block outer done (block.If (if_head l n e)))
 block_move outer done l (block_of.Select n e) = Some (body outer (inner.Select done (select_head l n e)))
-block_move outer done l (block_of.Do n control) = Some (open_block outer done (block.Do (record { line = l; name = n; control = control })))
+block_move outer done l (block_of.Do n control) =
+    Some (open_block outer done (block.Do (record { line = l; name = n; control = control })))
 block_move outer done l (block_of.Where m) = Some (body outer (inner.Where done [] (where_frame l m part.First [])))
 block_move outer done l (block_of.Forall h) = Some (body outer (inner.Forall done l h []))
 block_move outer done l b = in_frames outer done l b
@@ -279,7 +288,8 @@ more_where w x = where_frame w.line w.mask w.part (w.done ++ x ∷ [])
 -- an ELSEWHERE, which may not stand behind one without mask
 abbrev pub next_part : WherePart → List WhereStatement → Line → Option Expression → Option WherePart
 next_part part.First done l m = Some (part.Behind done [] l m)
-next_part (part.Behind first others k n) done l m = only_if (not (is_absent n)) (part.Behind first (others ++ elsewhere_of k n done ∷ []) l m)
+next_part (part.Behind first others k n) done l m = only_if (not (is_absent n))
+    (part.Behind first (others ++ elsewhere_of k n done ∷ []) l m)
 
 abbrev pub in_where : List Frame → List Statement → List WhereFrame → WhereFrame → Body
 in_where outer before wheres w = body outer (inner.Where before wheres w)
@@ -293,14 +303,17 @@ end_where outer before [] b = more outer before (statement.Where b)
 end_where outer before (w ∷ wheres) b = in_where outer before wheres (more_where w (where_statement.Block b))
 
 abbrev pub where_block_move : List Frame → List Statement → List WhereFrame → WhereFrame → Line → BlockForm → Option Body
-where_block_move outer before wheres w l (block_of.Where m) = Some (in_where outer before (w ∷ wheres) (where_frame l m part.First []))
+where_block_move outer before wheres w l (block_of.Where m) =
+    Some (in_where outer before (w ∷ wheres) (where_frame l m part.First []))
 where_block_move outer before wheres w l (block_of.ElseWhere m) = parted_where outer before wheres w (next_part w.part w.done l m)
 where_block_move outer before wheres w l block_of.EndWhere = Some (end_where outer before wheres (closed_where w l))
 where_block_move outer before wheres w l _ = None
 
 abbrev pub where_action_move : List Frame → List Statement → List WhereFrame → WhereFrame → Line → Action → Option Body
-where_action_move outer before wheres w l (act.Assignment a) = Some (in_where outer before wheres (more_where w (where_statement.Assignment l a)))
-where_action_move outer before wheres w l (act.Where m a) = Some (in_where outer before wheres (more_where w (where_statement.Where l m a)))
+where_action_move outer before wheres w l (act.Assignment a) =
+    Some (in_where outer before wheres (more_where w (where_statement.Assignment l a)))
+where_action_move outer before wheres w l (act.Where m a) = Some
+    (in_where outer before wheres (more_where w (where_statement.Where l m a)))
 where_action_move outer before wheres w l _ = None
 
 abbrev pub where_move : List Frame → List Statement → List WhereFrame → WhereFrame → Line → Form → Option Body
@@ -314,7 +327,8 @@ abbrev pub forall_action_move : List Frame → List Statement → Line → Heade
 forall_action_move outer before k h done l (act.Assignment a) = Some (body outer (inner.Forall before k h (done ++ (l, a) ∷ [])))
 forall_action_move outer before k h done l _ = None
 
-abbrev pub forall_block_move : List Frame → List Statement → Line → Header → List (Line × Assignment) → Line → BlockForm → Option Body
+abbrev pub forall_block_move : List Frame → List Statement → Line → Header → List (Line × Assignment) → Line → BlockForm →
+    Option Body
 forall_block_move outer before k h done l block_of.EndForall = Some (more outer before (statement.Forall k h done l))
 forall_block_move outer before k h done l _ = None
 
@@ -375,7 +389,8 @@ section_unit_move s l _ = None
 
 abbrev pub section_move : Section → Line → Form → Option Section
 section_move s l (of.Unit u) = section_unit_move s l u
-section_move s l (of.Declaration d) = Some (record { uses = s.uses; implicit = s.implicit; declarations = s.declarations ++ (l, d) ∷ [] })
+section_move s l (of.Declaration d) =
+    Some (record { uses = s.uses; implicit = s.implicit; declarations = s.declarations ++ (l, d) ∷ [] })
 section_move s l _ = None
 
 -- the state with what was found, if anything was
@@ -387,9 +402,11 @@ abbrev pub end_module : List Module → Line → Word → Section → Option (Li
 end_module ms l n s ps e = if may_end word.«Module» true e.word e.name && is_filled ps
     then state.Goes (ms ++ record { line = l; name = n; section = s; procedures = ps; end = e } ∷ []) place.Start else state.Stops
 
-abbrev pub end_main : List Module → Option (Line × Word) → Section → Option (Line × List Subprogram) → Ending → List Statement → State
+abbrev pub end_main : List Module → Option (Line × Word) → Section → Option (Line × List Subprogram) → Ending → List Statement →
+    State
 end_main ms o s ps e xs = if may_end word.Program true e.word e.name && is_filled ps
-    then state.Ended (record { modules = ms; main = record { opening = o; section = s; body = xs; procedures = ps; end = e } }) else state.Stops
+    then state.Ended (record { modules = ms; main = record { opening = o; section = s; body = xs; procedures = ps; end = e } }) else
+    state.Stops
 
 abbrev pub end_host : List Module → Host → Ending → State
 end_host ms (host.«Module» l n s k ps) e = end_module ms l n s (Some (k, ps)) e
@@ -401,7 +418,8 @@ more_procedures (host.Main o s xs k ps) p = host.Main o s xs k (ps ++ p ∷ [])
 
 abbrev pub end_procedure : List Module → Host → Line → Procedure → Section → Ending → List Statement → State
 end_procedure ms h l p s e xs = if may_end (heading_word p.heading) false e.word e.name
-    then state.Goes ms (place.Contains (more_procedures h (record { line = l; procedure = p; section = s; body = xs; end = e }))) else state.Stops
+    then state.Goes ms (place.Contains (more_procedures h (record { line = l; procedure = p; section = s; body = xs; end = e })))
+    else state.Stops
 
 abbrev pub module_unit_move : List Module → Line → Word → Section → Line → UnitForm → State
 module_unit_move ms k n s l unit_of.Contains = state.Goes ms (place.Contains (host.«Module» k n s l []))
@@ -425,7 +443,8 @@ main_unit_move ms o s b l u = before_body b (λ s. state.Goes ms (place.Main o s
 
 abbrev pub main_move : List Module → Option (Line × Word) → Section → Body → Line → Form → State
 main_move ms o s b l (of.Unit u) = main_unit_move ms o s b l u
-main_move ms o s b l (of.Declaration d) = before_body b (λ s. state.Goes ms (place.Main o s b)) (section_move s l (of.Declaration d))
+main_move ms o s b l (of.Declaration d) = before_body b (λ s. state.Goes ms (place.Main o s b))
+    (section_move s l (of.Declaration d))
 main_move ms o s b l f = into (λ b. state.Goes ms (place.Main o s b)) (body_move in_main b l f)
 
 abbrev pub start_unit_move : List Module → Line → UnitForm → State
@@ -453,7 +472,8 @@ procedure_unit_move ms h k p s b l u = before_body b (λ s. state.Goes ms (place
 
 abbrev pub procedure_move : List Module → Host → Line → Procedure → Section → Body → Line → Form → State
 procedure_move ms h k p s b l (of.Unit u) = procedure_unit_move ms h k p s b l u
-procedure_move ms h k p s b l (of.Declaration d) = before_body b (λ s. state.Goes ms (place.Procedure h k p s b)) (section_move s l (of.Declaration d))
+procedure_move ms h k p s b l (of.Declaration d) = before_body b (λ s. state.Goes ms (place.Procedure h k p s b))
+    (section_move s l (of.Declaration d))
 procedure_move ms h k p s b l f = into (λ b. state.Goes ms (place.Procedure h k p s b)) (body_move in_procedure b l f)
 
 abbrev pub place_move : List Module → Place → Line → Form → State

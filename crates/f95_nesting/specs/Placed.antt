@@ -131,7 +131,8 @@ elsewhere_at o = record {
 
 abbrev pub where_block_at : WhereBlock-F (ℕ → Text) Other (ℕ → Text) → ℕ → Text
 where_block_at b d = placed b.line (of.Block (block_of.Where b.mask)) false (suc d) true
-    ∷ (together b.body (suc d) ++ (others_text false b.others (suc d) ++ placed b.end (of.Block block_of.EndWhere) false (suc d) true ∷ []))
+    ∷ (together b.body (suc d)
+    ++ (others_text false b.others (suc d) ++ placed b.end (of.Block block_of.EndWhere) false (suc d) true ∷ []))
 
 abbrev pub where_statement_text : WhereStatement → ℕ → Text
 where_statement_text = fold-WhereStatement (ℕ → Text) Other (ℕ → Text) where_statement_at elsewhere_at where_block_at
@@ -213,7 +214,8 @@ statement_at (layer.Do l n control body end) c =
     opening l (block_of.Do n control) c ∷ (together body (inside_do n c) ++ block_end block_of.EndDo n c end ∷ [])
 statement_at (layer.Where b) c = where_block_text b c.blocks
 statement_at (layer.Forall l header xs end) c =
-    opening l (block_of.Forall header) c ∷ (assignments_text xs (suc c.blocks) ++ placed end (of.Block block_of.EndForall) false (suc c.blocks) true ∷ [])
+    opening l (block_of.Forall header) c
+    ∷ (assignments_text xs (suc c.blocks) ++ placed end (of.Block block_of.EndForall) false (suc c.blocks) true ∷ [])
 
 abbrev pub statement_text : Statement → Body
 statement_text = fold-Statement Body Part Range Part statement_at branch_at case_at otherwise_at
@@ -283,7 +285,8 @@ abbrev pub in_procedure : Context
 in_procedure = record { procedure = true; blocks = 0; dos = [] }
 
 abbrev pub subprogram_text : Subprogram → Text
-subprogram_text p = outside p.line (of.Unit (unit_of.Procedure p.procedure)) ∷ (section_text p.section ++ (statements_text p.body in_procedure
+subprogram_text p = outside p.line (of.Unit (unit_of.Procedure p.procedure))
+    ∷ (section_text p.section ++ (statements_text p.body in_procedure
     ++ unit_end (heading_word p.procedure.heading) false (Some (heading_name p.procedure.heading)) true p.end ∷ []))
 
 abbrev pub subprograms_text : List Subprogram → Text

@@ -39,7 +39,9 @@ use Rattle.f95_nesting.specs.declared.roles.WhereForm.TheVariants as where_of
 use Rattle.f95_nesting.specs.declared.roles.ForallForm.{ForallForm}
 use Rattle.f95_nesting.specs.declared.roles.ForallForm.TheVariants as forall_of
 use Rattle.f95_nesting.specs.Placed.{Context, action_stands}
-use Rattle.f95_nesting.specs.Machine.{only_if, body, open_block, more, ending, if_head, branch_head, select_head, case_head, if_block, select_block, next_case, in_frames, where_frame, more_where, in_where, next_part, parted_where, closed_where, end_where}
+use Rattle.f95_nesting.specs.Machine.{only_if, body, open_block, more, ending, if_head, branch_head, select_head, case_head}
+use Rattle.f95_nesting.specs.Machine.{if_block, select_block, next_case, in_frames, where_frame, more_where, in_where, next_part}
+use Rattle.f95_nesting.specs.Machine.{parted_where, closed_where, end_where}
 
 -- among statements
 abbrev pub body_form : Form → Option BodyForm
@@ -84,7 +86,8 @@ if_part _ = None
 
 abbrev pub if_by : List Frame → List Statement → IfHead → List Statement → List Branch → Line → Option IfPart → Option Body
 if_by outer before h first branches l None = None
-if_by outer before h first branches l (Some (if_of.ElseIf e n)) = Some (open_block outer before (block.ElseIf h first branches (branch_head l e n)))
+if_by outer before h first branches l (Some (if_of.ElseIf e n)) =
+    Some (open_block outer before (block.ElseIf h first branches (branch_head l e n)))
 if_by outer before h first branches l (Some (if_of.Else n)) = Some (open_block outer before (block.Else h first branches l n))
 if_by outer before h first branches l (Some (if_of.End n)) = Some (more outer before (if_block h first branches None l n))
 
@@ -93,7 +96,8 @@ abbrev pub end_of_if : BlockForm → Option (Option Word)
 end_of_if (block_of.EndIf n) = Some n
 end_of_if _ = None
 
-abbrev pub else_by : List Frame → List Statement → IfHead → List Statement → List Branch → Otherwise → Line → Option (Option Word) → Option Body
+abbrev pub else_by : List Frame → List Statement → IfHead → List Statement → List Branch → Otherwise → Line → Option (Option Word) →
+    Option Body
 else_by outer before h first branches other l None = None
 else_by outer before h first branches other l (Some n) = Some (more outer before (if_block h first branches (Some other) l n))
 
@@ -152,9 +156,12 @@ where_form _ = None
 
 abbrev pub where_by : List Frame → List Statement → List WhereFrame → WhereFrame → Line → Option WhereForm → Option Body
 where_by outer before wheres w l None = None
-where_by outer before wheres w l (Some (where_of.Assignment a)) = Some (in_where outer before wheres (more_where w (where_statement.Assignment l a)))
-where_by outer before wheres w l (Some (where_of.Masked m a)) = Some (in_where outer before wheres (more_where w (where_statement.Where l m a)))
-where_by outer before wheres w l (Some (where_of.Begin m)) = Some (in_where outer before (w ∷ wheres) (where_frame l m part.First []))
+where_by outer before wheres w l (Some (where_of.Assignment a)) =
+    Some (in_where outer before wheres (more_where w (where_statement.Assignment l a)))
+where_by outer before wheres w l (Some (where_of.Masked m a)) =
+    Some (in_where outer before wheres (more_where w (where_statement.Where l m a)))
+where_by outer before wheres w l (Some (where_of.Begin m)) =
+    Some (in_where outer before (w ∷ wheres) (where_frame l m part.First []))
 where_by outer before wheres w l (Some (where_of.Else m)) = parted_where outer before wheres w (next_part w.part w.done l m)
 where_by outer before wheres w l (Some where_of.End) = Some (end_where outer before wheres (closed_where w l))
 
@@ -179,7 +186,9 @@ forall_form (of.Action a) = forall_action a
 forall_form (of.Block b) = forall_part b
 forall_form _ = None
 
-abbrev pub forall_by : List Frame → List Statement → Line → Header → List (Line × Assignment) → Line → Option ForallForm → Option Body
+abbrev pub forall_by : List Frame → List Statement → Line → Header → List (Line × Assignment) → Line → Option ForallForm →
+    Option Body
 forall_by outer before k h done l None = None
-forall_by outer before k h done l (Some (forall_of.Assignment a)) = Some (body outer (inner.Forall before k h (done ++ (l, a) ∷ [])))
+forall_by outer before k h done l (Some (forall_of.Assignment a)) =
+    Some (body outer (inner.Forall before k h (done ++ (l, a) ∷ [])))
 forall_by outer before k h done l (Some forall_of.End) = Some (more outer before (statement.Forall k h done l))

@@ -7,10 +7,10 @@ ghost use Rattle.f95_nesting.specs.Machine.{context, block_name, frames_name, in
 ghost use Rattle.f95_nesting.specs.Kinds.{unit_context, is_do, is_do_of};
 
 use crate::open::{Block, Body, Frame, Inner};
-use a95_base::{Bytes, Stack};
+use a95_base::{SharedBytes, Stack};
 use f95_tree::Action;
 
-fn block_name(block: &Block) -> Option<&Bytes>
+fn block_name(block: &Block) -> Option<&SharedBytes>
     ensures { option_copied result ≡ block_name block.now }
 {
     match block {
@@ -22,7 +22,10 @@ fn block_name(block: &Block) -> Option<&Bytes>
     }
 }
 
-fn frames_name<'a>(outer: &'a Stack<Frame>, unit: Option<&'a Bytes>) -> Option<&'a Bytes>
+fn frames_name<'a>(
+    outer: &'a Stack<Frame>,
+    unit: Option<&'a SharedBytes>,
+) -> Option<&'a SharedBytes>
     ensures { option_copied result ≡ frames_name outer.now (option_copied unit.entry) }
 {
     match outer.top() {
@@ -31,7 +34,7 @@ fn frames_name<'a>(outer: &'a Stack<Frame>, unit: Option<&'a Bytes>) -> Option<&
     }
 }
 
-fn inner_name<'a>(inner: &'a Inner, around: Option<&'a Bytes>) -> Option<&'a Bytes>
+fn inner_name<'a>(inner: &'a Inner, around: Option<&'a SharedBytes>) -> Option<&'a SharedBytes>
     ensures { option_copied result ≡ inner_name inner.now (option_copied around.entry) }
 {
     match inner {
@@ -43,7 +46,7 @@ fn inner_name<'a>(inner: &'a Inner, around: Option<&'a Bytes>) -> Option<&'a Byt
 }
 
 /// The name of the innermost block, or of the unit where none is open.
-pub fn body_name<'a>(body: &'a Body, unit: Option<&'a Bytes>) -> Option<&'a Bytes>
+pub fn body_name<'a>(body: &'a Body, unit: Option<&'a SharedBytes>) -> Option<&'a SharedBytes>
     ensures { option_copied result ≡ body_name body.now (option_copied unit.entry) }
 {
     inner_name(&body.inner, frames_name(&body.outer, unit))
@@ -83,7 +86,7 @@ fn is_do(block: &Block) -> bool
     }
 }
 
-fn is_do_of(block: &Block, name: &Bytes) -> bool
+fn is_do_of(block: &Block, name: &SharedBytes) -> bool
     ensures { result ≡ is_do_of name.now block.now }
 {
     match block {
@@ -115,7 +118,7 @@ fn is_in_do(frames: &[Frame]) -> bool
 
 /// Whether a DO of this name is among the blocks, the innermost last.
 #[tactic(auto, using(crate::proofs::Enclosing::named_last, crate::proofs::Enclosing::unnamed_last))]
-fn is_in_do_of(frames: &[Frame], name: &Bytes) -> bool
+fn is_in_do_of(frames: &[Frame], name: &SharedBytes) -> bool
     ensures { result ≡ leaves (context in_main (reverse frames.now)).dos (Some name.now) }
 {
     let mut rest = frames;
@@ -129,7 +132,7 @@ fn is_in_do_of(frames: &[Frame], name: &Bytes) -> bool
 }
 
 /// Whether EXIT and CYCLE, with a name or without, may stand inside these blocks.
-fn leaves(outer: &Stack<Frame>, name: &Option<Bytes>) -> bool
+fn leaves(outer: &Stack<Frame>, name: &Option<SharedBytes>) -> bool
     ensures { result ≡ leaves (context in_main outer.now).dos name.now }
 {
     match name {

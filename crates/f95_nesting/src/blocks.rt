@@ -2,13 +2,14 @@
 
 ghost use Rattle.std.specs.Prelude.{◌≡◌, ◌++◌, ◌∷◌, [], ◌&&◌, IfOk, Some, None};
 ghost use Rattle.f95_nesting.specs.Lists.{is_absent};
-ghost use Rattle.f95_nesting.specs.Machine.{more, open_block, if_block, select_block, branch_of, otherwise_of, case_of, ending, has_default, next_case, in_else_if, in_else, in_do, in_block, in_frames};
+ghost use Rattle.f95_nesting.specs.Machine.{more, open_block, if_block, select_block, branch_of, otherwise_of, case_of, ending};
+ghost use Rattle.f95_nesting.specs.Machine.{has_default, next_case, in_else_if, in_else, in_do, in_block, in_frames};
 ghost use Rattle.f95_nesting.specs.declared.open.Block.TheVariants as block_of;
 ghost use Rattle.f95_nesting.specs.Roles.{if_by, select_by, do_block};
 
 use crate::open::{Block, Body, BranchHead, CaseHead, DoHead, Frame, IfHead, Inner, SelectHead};
 use crate::roles::{IfPart, SelectPart, end_of_do, end_of_if, if_part, select_part};
-use a95_base::{Bytes, Line, Stack};
+use a95_base::{Line, SharedBytes, Stack};
 use f95_tree::{BlockForm, Branch, Case, CaseRange, Ending, Otherwise, Statement};
 use sqlite_items::{Boxed, Items};
 use std::alloc::{AllocError, Global};
@@ -54,16 +55,38 @@ pub fn with_block(around: Around, block: Statement) -> Result<Option<Body>, Allo
     Ok(Some(more(around, block)?))
 }
 
+/// No statements. The first one takes the place that stands ready: most of the blocks that stand deep in others have one.
+fn room_for_one(alloc: Global) -> Result<Items<Statement>, AllocError>
+    ensures { IfOk result (λ statements. statements ≡ []) }
+{
+    let room = Vec::with_capacity(alloc, 1)?;
+    Ok(Items::from_vec(room))
+}
+
 /// A block whose statements begin.
 pub fn open_block(alloc: Global, around: Around, block: Block) -> Result<Body, AllocError>
     ensures { IfOk result (λ b. b ≡ open_block around.outer around.before block) }
 {
+    let body = match room_for_one(alloc) {
+        Ok(body) => body,
+        Err(error) => {
+            drop(around);
+            drop(block);
+            return Err(error);
+        }
+    };
     let Around { mut outer, before } = around;
-    outer.push(Frame { before, block })?;
-    Ok(Body {
-        outer,
-        inner: Inner::Statements(Items::new(alloc)),
-    })
+    match outer.push(Frame { before, block }) {
+        Ok(()) => Ok(Body {
+            outer,
+            inner: Inner::Statements(body),
+        }),
+        Err(error) => {
+            drop(outer);
+            drop(body);
+            Err(error)
+        }
+    }
 }
 
 /// The same, as one that may stand there.
@@ -82,7 +105,7 @@ fn boxed(alloc: Global, other: Option<Otherwise>) -> Result<Option<Boxed<Otherwi
     }
 }
 
-fn ending(line: Line, name: Option<Bytes>) -> Ending
+fn ending(line: Line, name: Option<SharedBytes>) -> Ending
     ensures { result ≡ ending line None name }
 {
     Ending {
@@ -97,7 +120,7 @@ fn if_block(
     so_far: IfSoFar,
     other: Option<Otherwise>,
     line: Line,
-    end: Option<Bytes>,
+    end: Option<SharedBytes>,
 ) -> Result<Statement, AllocError>
     ensures { IfOk result (λ s. s ≡ if_block so_far.head so_far.first so_far.branches other line end) }
 {
@@ -179,7 +202,7 @@ fn with_case(
     Ok(cases)
 }
 
-fn otherwise(line: Line, name: Option<Bytes>, body: Items<Statement>) -> Otherwise
+fn otherwise(line: Line, name: Option<SharedBytes>, body: Items<Statement>) -> Otherwise
     ensures { result ≡ otherwise_of line name body }
 {
     Otherwise { line, name, body }
@@ -192,9 +215,10 @@ fn end_if(
     so_far: IfSoFar,
     other: Option<Otherwise>,
     line: Line,
-    end: Option<Bytes>,
+    end: Option<SharedBytes>,
 ) -> Result<Option<Body>, AllocError>
-    ensures { IfOk result (λ b. b ≡ Some (more around.outer around.before (if_block so_far.head so_far.first so_far.branches other line end))) }
+    ensures { IfOk result
+        (λ b. b ≡ Some (more around.outer around.before (if_block so_far.head so_far.first so_far.branches other line end))) }
 {
     match if_block(alloc, so_far, other, line, end) {
         Ok(block) => with_block(around, block),
@@ -285,7 +309,7 @@ fn in_else(
     end_if(alloc, around, so_far, Some(other), line, end)
 }
 
-fn select_block(so_far: SelectSoFar, line: Line, end: Option<Bytes>) -> Statement
+fn select_block(so_far: SelectSoFar, line: Line, end: Option<SharedBytes>) -> Statement
     ensures { result ≡ select_block so_far.head so_far.cases line end }
 {
     let SelectSoFar { head, cases } = so_far;
@@ -297,7 +321,7 @@ fn select_block(so_far: SelectSoFar, line: Line, end: Option<Bytes>) -> Statemen
     Statement::Select(at, name, selector, cases, ending(line, end))
 }
 
-fn do_block(head: DoHead, body: Items<Statement>, line: Line, end: Option<Bytes>) -> Statement
+fn do_block(head: DoHead, body: Items<Statement>, line: Line, end: Option<SharedBytes>) -> Statement
     ensures { result ≡ do_block head body line end }
 {
     let DoHead {
@@ -411,7 +435,9 @@ fn behind_else_if(
     line: Line,
     form: BlockForm,
 ) -> Result<Option<Body>, AllocError>
-    ensures { IfOk result (λ b. b ≡ in_block around.outer around.before (block_of.ElseIf so_far.head so_far.first so_far.branches last) done line form) }
+    ensures { IfOk result
+        (λ b. b ≡ in_block around.outer around.before (block_of.ElseIf so_far.head so_far.first so_far.branches last) done line
+        form) }
 {
     let IfSoFar {
         head,
@@ -447,7 +473,8 @@ fn behind_case(
     line: Line,
     form: BlockForm,
 ) -> Result<Option<Body>, AllocError>
-    ensures { IfOk result (λ b. b ≡ in_block around.outer around.before (block_of.Case so_far.head so_far.cases last) done line form) }
+    ensures { IfOk result
+        (λ b. b ≡ in_block around.outer around.before (block_of.Case so_far.head so_far.cases last) done line form) }
 {
     let Some(part) = select_part(form) else {
         drop(around);

@@ -3,7 +3,8 @@
 ghost use Rattle.std.specs.Prelude.{◌≡◌, [], IfOk, Some};
 ghost use Rattle.f95_nesting.specs.Kinds.{unit_context, more_action, more_if};
 ghost use Rattle.f95_nesting.specs.Roles.{opened, block_by, statements_by, opening_form};
-ghost use Rattle.f95_nesting.specs.Machine.{context, statements_move, select_move, body_move, no_body, is_empty_at, is_empty, done_at, done_of};
+ghost use Rattle.f95_nesting.specs.Machine.{context, statements_move, select_move, body_move, no_body, is_empty_at, is_empty};
+ghost use Rattle.f95_nesting.specs.Machine.{done_at, done_of};
 ghost use Rattle.f95_nesting.specs.declared.roles.Opening.TheVariants as opening_of;
 
 use crate::around::action_stands;
@@ -11,12 +12,17 @@ use crate::blocks::{Around, SelectSoFar, in_frames, open_block, select_by, with_
 use crate::open::{Block, Body, DoHead, Frame, IfHead, Inner, SelectHead, WhereFrame, WherePart};
 use crate::roles::{BodyForm, Opening, body_form, opening_form, select_form};
 use crate::wheres::{ForallSoFar, WhereSoFar, forall_move, where_move};
-use a95_base::{Bytes, Line, Stack};
+use a95_base::{Line, SharedBytes, Stack};
 use f95_tree::{Action, BlockForm, Expression, Form, Header, Statement};
-use sqlite_items::Items;
+use sqlite_items::{Boxed, Items};
 use std::alloc::{AllocError, Global};
 
-fn begun_select(around: Around, line: Line, name: Option<Bytes>, selector: Expression) -> Body
+fn begun_select(
+    around: Around,
+    line: Line,
+    name: Option<SharedBytes>,
+    selector: Boxed<Expression>,
+) -> Body
     ensures { result ≡ opened around.outer around.before line (opening_of.Select name selector) }
 {
     let Around { outer, before } = around;
@@ -130,12 +136,12 @@ fn more_if(
     procedure: bool,
     around: Around,
     line: Line,
-    condition: Expression,
-    action: Action,
+    condition: Boxed<Expression>,
+    action: Boxed<Action>,
 ) -> Result<Option<Body>, AllocError>
     ensures { IfOk result (λ b. b ≡ more_if procedure around.outer around.before line condition action) }
 {
-    if !action_stands(procedure, &around.outer, &action) {
+    if !action_stands(procedure, &around.outer, action.get()) {
         drop(around);
         drop(condition);
         drop(action);
@@ -151,7 +157,8 @@ fn statements_by(
     line: Line,
     form: BodyForm,
 ) -> Result<Option<Body>, AllocError>
-    ensures { IfOk result (λ b. b ≡ statements_by (context (unit_context procedure) around.outer) around.outer around.before line (Some form)) }
+    ensures { IfOk result
+        (λ b. b ≡ statements_by (context (unit_context procedure) around.outer) around.outer around.before line (Some form)) }
 {
     match form {
         BodyForm::Action(action) => more_action(procedure, around, line, action),
@@ -169,7 +176,8 @@ fn statements_move(
     line: Line,
     form: Form,
 ) -> Result<Option<Body>, AllocError>
-    ensures { IfOk result (λ b. b ≡ statements_move (context (unit_context procedure) around.outer) around.outer around.before line form) }
+    ensures { IfOk result
+        (λ b. b ≡ statements_move (context (unit_context procedure) around.outer) around.outer around.before line form) }
 {
     let Some(form) = body_form(form) else {
         drop(around);

@@ -25,10 +25,12 @@ pub fn nests_as_read()
 /// What is noted along the run of the machine is exactly what the rules say, each with its line.
 pub fn rules_as_noted()
     ensures noted { (forms : List Lined) (feeds : ℕ) (b : Break) → Member (breaks forms feeds) b → IsBroken forms feeds b.line b.rule }
-    ensures broken { (forms : List Lined) (feeds line rule : ℕ) → IsBroken forms feeds line rule → Member (breaks forms feeds) (broken_at line rule) }
+    ensures broken { (forms : List Lined) (feeds line rule : ℕ) → IsBroken forms feeds line rule →
+        Member (breaks forms feeds) (broken_at line rule) }
 {}
 
 /// Forms that break no rule nest.
 pub fn unbroken_forms_nest()
-    ensures { (forms : List Lined) (feeds : ℕ) → ((line rule : ℕ) → IsBroken forms feeds line rule → ⊥) → (s : Source) × Nests forms s }
+    ensures { (forms : List Lined) (feeds : ℕ) → ((line rule : ℕ) → IsBroken forms feeds line rule → ⊥) →
+        (s : Source) × Nests forms s }
 {}

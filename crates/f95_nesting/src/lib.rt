@@ -1,6 +1,7 @@
 //! What forms nest to, with its laws, and the statements of a unit, read one at a time. A list of forms, each with its line, nests
 //! to a source where the source is printed as the list and each of its statements may stand where it stands. `specs/Placed` prints
-//! statements in their places, `specs/Nesting` says what nests and when each rule is broken, and `specs/Machine` reads one statement
+//! statements in their places, `specs/Nesting` says what nests and when each rule is broken, and `specs/Machine` reads one
+//! statement
 //! a step. `body_move` is that step inside a unit; `f95_blocks` reads units over it.
 #![tactic(auto)]
 

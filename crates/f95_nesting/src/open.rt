@@ -1,19 +1,19 @@
 //! What has been read of a source that isn't ended: the modules before, and the unit and the blocks that are open, each with what
 //! stands before it.
 
-use a95_base::{Bytes, Line, Stack};
+use a95_base::{Line, SharedBytes, Stack};
 use f95_tree::{
     Assignment, Branch, Case, CaseRange, Control, ElseWhere, Expression, Header, Module, Procedure,
     Section, Source, Statement, Subprogram, WhereStatement,
 };
-use sqlite_items::Items;
+use sqlite_items::{Boxed, Items};
 
 /// IF
 #[derive(Drop)]
 pub struct IfHead {
     pub line: Line,
-    pub name: Option<Bytes>,
-    pub condition: Expression,
+    pub name: Option<SharedBytes>,
+    pub condition: Boxed<Expression>,
 }
 
 /// ELSE IF
@@ -21,15 +21,15 @@ pub struct IfHead {
 pub struct BranchHead {
     pub line: Line,
     pub condition: Expression,
-    pub name: Option<Bytes>,
+    pub name: Option<SharedBytes>,
 }
 
 /// SELECT CASE
 #[derive(Drop)]
 pub struct SelectHead {
     pub line: Line,
-    pub name: Option<Bytes>,
-    pub selector: Expression,
+    pub name: Option<SharedBytes>,
+    pub selector: Boxed<Expression>,
 }
 
 /// CASE, without ranges CASE DEFAULT
@@ -37,14 +37,14 @@ pub struct SelectHead {
 pub struct CaseHead {
     pub line: Line,
     pub ranges: Option<Items<CaseRange>>,
-    pub name: Option<Bytes>,
+    pub name: Option<SharedBytes>,
 }
 
 /// DO
 #[derive(Drop)]
 pub struct DoHead {
     pub line: Line,
-    pub name: Option<Bytes>,
+    pub name: Option<SharedBytes>,
     pub control: Control,
 }
 
@@ -55,7 +55,7 @@ pub enum Block {
     /// Behind ELSE IF: the body of IF, and the ELSE IFs before.
     ElseIf(IfHead, Items<Statement>, Items<Branch>, BranchHead),
     /// Behind ELSE.
-    Else(IfHead, Items<Statement>, Items<Branch>, Line, Option<Bytes>),
+    Else(IfHead, Items<Statement>, Items<Branch>, Line, Option<SharedBytes>),
     /// Behind CASE: the CASEs before.
     Case(SelectHead, Items<Case>, CaseHead),
     Do(DoHead),
@@ -107,8 +107,8 @@ pub struct Body {
 /// A module or a main program whose procedures are read: what stands before CONTAINS, its line, and the procedures so far.
 #[derive(Drop)]
 pub enum Host {
-    Module(Line, Bytes, Section, Line, Items<Subprogram>),
-    Main(Option<(Line, Bytes)>, Section, Items<Statement>, Line, Items<Subprogram>),
+    Module(Line, SharedBytes, Section, Line, Items<Subprogram>),
+    Main(Option<(Line, SharedBytes)>, Section, Items<Statement>, Line, Items<Subprogram>),
 }
 
 /// What is open behind the modules that are ended.
@@ -116,8 +116,8 @@ pub enum Host {
 pub enum Place {
     /// Nothing.
     Start,
-    Module(Line, Bytes, Section),
-    Main(Option<(Line, Bytes)>, Section, Body),
+    Module(Line, SharedBytes, Section),
+    Main(Option<(Line, SharedBytes)>, Section, Body),
     /// Behind CONTAINS or the end of a procedure.
     Contains(Host),
     Procedure(Host, Line, Procedure, Section, Body),

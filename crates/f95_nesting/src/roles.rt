@@ -1,27 +1,29 @@
 //! What a form is to the block that it stands in. A form is taken apart here, where nothing else is held.
 
 ghost use Rattle.std.specs.Prelude.{◌≡◌};
-ghost use Rattle.f95_nesting.specs.Roles.{body_form, opening_form, if_part, end_of_if, select_part, select_form, end_of_do, is_end_where, end_where_if, where_part, where_action, where_form, is_end_forall, forall_part, forall_action, forall_form};
+ghost use Rattle.f95_nesting.specs.Roles.{body_form, opening_form, if_part, end_of_if, select_part, select_form, end_of_do};
+ghost use Rattle.f95_nesting.specs.Roles.{is_end_where, end_where_if, where_part, where_action, where_form, is_end_forall};
+ghost use Rattle.f95_nesting.specs.Roles.{forall_part, forall_action, forall_form};
 
-use a95_base::Bytes;
+use a95_base::SharedBytes;
 use f95_tree::{Action, Assignment, BlockForm, CaseRange, Control, Expression, Form, Header};
-use sqlite_items::Items;
+use sqlite_items::{Boxed, Items};
 
 /// A form that may stand among statements.
 #[derive(Drop)]
 pub enum BodyForm {
     Action(Action),
     /// `IF ( condition ) action`
-    If(Expression, Action),
+    If(Boxed<Expression>, Boxed<Action>),
     Block(BlockForm),
 }
 
 /// What begins a block.
 #[derive(Drop)]
 pub enum Opening {
-    If(Option<Bytes>, Expression),
-    Select(Option<Bytes>, Expression),
-    Do(Option<Bytes>, Control),
+    If(Option<SharedBytes>, Boxed<Expression>),
+    Select(Option<SharedBytes>, Boxed<Expression>),
+    Do(Option<SharedBytes>, Control),
     Where(Expression),
     Forall(Header),
 }
@@ -29,16 +31,16 @@ pub enum Opening {
 /// What parts or ends IF.
 #[derive(Drop)]
 pub enum IfPart {
-    ElseIf(Expression, Option<Bytes>),
-    Else(Option<Bytes>),
-    End(Option<Bytes>),
+    ElseIf(Expression, Option<SharedBytes>),
+    Else(Option<SharedBytes>),
+    End(Option<SharedBytes>),
 }
 
 /// What parts or ends SELECT CASE. CASE without ranges is CASE DEFAULT.
 #[derive(Drop)]
 pub enum SelectPart {
-    Case(Option<Items<CaseRange>>, Option<Bytes>),
-    End(Option<Bytes>),
+    Case(Option<Items<CaseRange>>, Option<SharedBytes>),
+    End(Option<SharedBytes>),
 }
 
 /// What may stand in WHERE.
@@ -81,9 +83,9 @@ pub fn opening_form(form: BlockForm) -> Result<Opening, BlockForm>
     match form {
         BlockForm::If(name, condition) => Ok(Opening::If(name, condition)),
         BlockForm::Select(name, selector) => Ok(Opening::Select(name, selector)),
-        BlockForm::Do(name, control) => Ok(Opening::Do(name, control)),
-        BlockForm::Where(mask) => Ok(Opening::Where(mask)),
-        BlockForm::Forall(header) => Ok(Opening::Forall(header)),
+        BlockForm::Do(name, control) => Ok(Opening::Do(name, control.into_inner())),
+        BlockForm::Where(mask) => Ok(Opening::Where(mask.into_inner())),
+        BlockForm::Forall(header) => Ok(Opening::Forall(header.into_inner())),
         other => Err(other),
     }
 }
@@ -92,7 +94,7 @@ pub fn if_part(form: BlockForm) -> Option<IfPart>
     ensures { result ≡ if_part form }
 {
     match form {
-        BlockForm::ElseIf(condition, name) => Some(IfPart::ElseIf(condition, name)),
+        BlockForm::ElseIf(condition, name) => Some(IfPart::ElseIf(condition.into_inner(), name)),
         BlockForm::Else(name) => Some(IfPart::Else(name)),
         BlockForm::EndIf(name) => Some(IfPart::End(name)),
         other => {
@@ -103,7 +105,7 @@ pub fn if_part(form: BlockForm) -> Option<IfPart>
 }
 
 /// The name at END IF.
-pub fn end_of_if(form: BlockForm) -> Option<Option<Bytes>>
+pub fn end_of_if(form: BlockForm) -> Option<Option<SharedBytes>>
     ensures { result ≡ end_of_if form }
 {
     match form {
@@ -119,7 +121,7 @@ pub fn select_part(form: BlockForm) -> Option<SelectPart>
     ensures { result ≡ select_part form }
 {
     match form {
-        BlockForm::Case(ranges, name) => Some(SelectPart::Case(Some(ranges), name)),
+        BlockForm::Case(ranges, name) => Some(SelectPart::Case(Some(ranges.into_inner()), name)),
         BlockForm::CaseDefault(name) => Some(SelectPart::Case(None, name)),
         BlockForm::EndSelect(name) => Some(SelectPart::End(name)),
         other => {
@@ -142,7 +144,7 @@ pub fn select_form(form: Form) -> Option<SelectPart>
 }
 
 /// The name at END DO.
-pub fn end_of_do(form: BlockForm) -> Option<Option<Bytes>>
+pub fn end_of_do(form: BlockForm) -> Option<Option<SharedBytes>>
     ensures { result ≡ end_of_do form }
 {
     match form {
@@ -175,12 +177,21 @@ fn end_of_where(form: BlockForm) -> Option<WhereForm>
     None
 }
 
+fn unboxed(expression: Option<Boxed<Expression>>) -> Option<Expression>
+    ensures { result ≡ expression }
+{
+    match expression {
+        None => None,
+        Some(expression) => Some(expression.into_inner()),
+    }
+}
+
 fn where_part(form: BlockForm) -> Option<WhereForm>
     ensures { result ≡ where_part form }
 {
     match form {
-        BlockForm::Where(mask) => Some(WhereForm::Begin(mask)),
-        BlockForm::ElseWhere(mask) => Some(WhereForm::Else(mask)),
+        BlockForm::Where(mask) => Some(WhereForm::Begin(mask.into_inner())),
+        BlockForm::ElseWhere(mask) => Some(WhereForm::Else(unboxed(mask))),
         other => end_of_where(other),
     }
 }
@@ -189,8 +200,11 @@ fn where_action(action: Action) -> Option<WhereForm>
     ensures { result ≡ where_action action }
 {
     match action {
-        Action::Assignment(assignment) => Some(WhereForm::Assignment(assignment)),
-        Action::Where(mask, assignment) => Some(WhereForm::Masked(mask, assignment)),
+        Action::Assignment(assignment) => Some(WhereForm::Assignment(assignment.into_inner())),
+        Action::Where(mask, assignment) => Some(WhereForm::Masked(
+            mask.into_inner(),
+            assignment.into_inner(),
+        )),
         other => {
             drop(other);
             None
@@ -236,7 +250,7 @@ fn forall_action(action: Action) -> Option<ForallForm>
     ensures { result ≡ forall_action action }
 {
     match action {
-        Action::Assignment(assignment) => Some(ForallForm::Assignment(assignment)),
+        Action::Assignment(assignment) => Some(ForallForm::Assignment(assignment.into_inner())),
         other => {
             drop(other);
             None

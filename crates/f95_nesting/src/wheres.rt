@@ -8,7 +8,8 @@ ghost use Rattle.f95_tree.specs.declared.source.WhereStatement.TheVariants as st
 ghost use Rattle.f95_nesting.specs.Lists.{is_absent};
 ghost use Rattle.f95_nesting.specs.Kinds.{with_part};
 ghost use Rattle.f95_nesting.specs.Roles.{where_by, forall_by};
-ghost use Rattle.f95_nesting.specs.Machine.{elsewhere_of, where_block, closed_part, closed_where, more_where, next_part, in_where, end_where, where_move, forall_move};
+ghost use Rattle.f95_nesting.specs.Machine.{elsewhere_of, where_block, closed_part, closed_where, more_where, next_part, in_where};
+ghost use Rattle.f95_nesting.specs.Machine.{end_where, where_move, forall_move};
 
 use crate::blocks::{Around, more, with_block};
 use crate::open::{Body, Inner, WhereFrame, WherePart};
@@ -243,7 +244,8 @@ fn parted_where(
     line: Line,
     mask: Option<Expression>,
 ) -> Result<Option<Body>, AllocError>
-    ensures { IfOk result (λ b. b ≡ where_by so_far.around.outer so_far.around.before so_far.wheres so_far.frame line (Some (where_of.Else mask))) }
+    ensures { IfOk result
+        (λ b. b ≡ where_by so_far.around.outer so_far.around.before so_far.wheres so_far.frame line (Some (where_of.Else mask))) }
 {
     let WhereSoFar {
         around,
@@ -327,7 +329,8 @@ fn nested_where(
     line: Line,
     mask: Expression,
 ) -> Result<Option<Body>, AllocError>
-    ensures { IfOk result (λ b. b ≡ where_by so_far.around.outer so_far.around.before so_far.wheres so_far.frame line (Some (where_of.Begin mask))) }
+    ensures { IfOk result
+        (λ b. b ≡ where_by so_far.around.outer so_far.around.before so_far.wheres so_far.frame line (Some (where_of.Begin mask))) }
 {
     let WhereSoFar {
         around,
@@ -351,7 +354,8 @@ fn nested_where(
 
 /// END WHERE.
 fn end_where_by(alloc: Global, so_far: WhereSoFar, line: Line) -> Result<Option<Body>, AllocError>
-    ensures { IfOk result (λ b. b ≡ where_by so_far.around.outer so_far.around.before so_far.wheres so_far.frame line (Some where_of.End)) }
+    ensures { IfOk result
+        (λ b. b ≡ where_by so_far.around.outer so_far.around.before so_far.wheres so_far.frame line (Some where_of.End)) }
 {
     let WhereSoFar {
         around,
@@ -370,7 +374,8 @@ fn end_where_by(alloc: Global, so_far: WhereSoFar, line: Line) -> Result<Option<
 
 /// One statement more in the innermost WHERE block.
 fn with_where(so_far: WhereSoFar, statement: WhereStatement) -> Result<Option<Body>, AllocError>
-    ensures { IfOk result (λ b. b ≡ Some (in_where so_far.around.outer so_far.around.before so_far.wheres (more_where so_far.frame statement))) }
+    ensures { IfOk result
+        (λ b. b ≡ Some (in_where so_far.around.outer so_far.around.before so_far.wheres (more_where so_far.frame statement))) }
 {
     let WhereSoFar {
         around,
@@ -434,7 +439,9 @@ fn with_assignment(
     line: Line,
     assignment: Assignment,
 ) -> Result<Option<Body>, AllocError>
-    ensures { IfOk result (λ b. b ≡ forall_by so_far.around.outer so_far.around.before so_far.line so_far.header so_far.done line (Some (forall_of.Assignment assignment))) }
+    ensures { IfOk result
+        (λ b. b ≡ forall_by so_far.around.outer so_far.around.before so_far.line so_far.header so_far.done line
+        (Some (forall_of.Assignment assignment))) }
 {
     let ForallSoFar {
         around,
@@ -455,7 +462,9 @@ fn with_assignment(
 
 /// END FORALL.
 fn end_forall(so_far: ForallSoFar, line: Line) -> Result<Option<Body>, AllocError>
-    ensures { IfOk result (λ b. b ≡ forall_by so_far.around.outer so_far.around.before so_far.line so_far.header so_far.done line (Some forall_of.End)) }
+    ensures { IfOk result
+        (λ b. b ≡ forall_by so_far.around.outer so_far.around.before so_far.line so_far.header so_far.done line
+        (Some forall_of.End)) }
 {
     let ForallSoFar {
         around,
@@ -467,7 +476,8 @@ fn end_forall(so_far: ForallSoFar, line: Line) -> Result<Option<Body>, AllocErro
 }
 
 fn forall_by(so_far: ForallSoFar, line: Line, form: ForallForm) -> Result<Option<Body>, AllocError>
-    ensures { IfOk result (λ b. b ≡ forall_by so_far.around.outer so_far.around.before so_far.line so_far.header so_far.done line (Some form)) }
+    ensures { IfOk result
+        (λ b. b ≡ forall_by so_far.around.outer so_far.around.before so_far.line so_far.header so_far.done line (Some form)) }
 {
     match form {
         ForallForm::Assignment(assignment) => with_assignment(so_far, line, assignment),
@@ -481,7 +491,8 @@ fn forall_by(so_far: ForallSoFar, line: Line, form: ForallForm) -> Result<Option
 /// One statement more inside FORALL.
 #[tactic(auto, using(crate::proofs::ByRole::forall_move_by))]
 pub fn forall_move(so_far: ForallSoFar, line: Line, form: Form) -> Result<Option<Body>, AllocError>
-    ensures { IfOk result (λ b. b ≡ forall_move so_far.around.outer so_far.around.before so_far.line so_far.header so_far.done line form) }
+    ensures { IfOk result
+        (λ b. b ≡ forall_move so_far.around.outer so_far.around.before so_far.line so_far.header so_far.done line form) }
 {
     let Some(form) = forall_form(form) else {
         drop(so_far);

@@ -1,5 +1,6 @@
 -- Statements that begin, part and end blocks: what is read is spelled as the terminals, and what is spelled is read.
-use Rattle.std.proofs.Common.{◌≡◌, Bool, true, false, ◌&&◌, List, [], ◌∷◌, ◌++◌, map, Option, Some, None, sym, ◌∙◌, ap, subst, refl, append-nil}
+use Rattle.std.proofs.Common.{◌≡◌, Bool, true, false, ◌&&◌, List, [], ◌∷◌, ◌++◌, map, Option, Some, None, sym, ◌∙◌, ap, subst, refl}
+use Rattle.std.proofs.Common.{append-nil}
 use Rattle.std.specs.Prelude.{option_map, option_and_then, codes, if◌then◌else◌}
 use Rattle.std.proofs.Math.Bool.{and-true}
 use Rattle.f95_tree.specs.declared.expression.Expression.{Expression}
@@ -20,7 +21,8 @@ use Rattle.f95_tree.specs.declared.form.Control.{Control}
 use Rattle.f95_tree.specs.declared.form.Control.TheVariants as control_of
 use Rattle.f95_tree.specs.Spelling.{Text, punctuated, commas, in_brackets, maybe_behind, expression}
 use Rattle.f95_tree.specs.Grades.{all, some, well}
-use Rattle.f95_tree.specs.Forms.{Word, named, maybe_named, maybe_expression, block_word, argument_text, label, range_text, comma_text, control_text, end_of, block_text}
+use Rattle.f95_tree.specs.Forms.{Word, named, maybe_named, maybe_expression, block_word, argument_text, label, range_text}
+use Rattle.f95_tree.specs.Forms.{comma_text, control_text, end_of, block_text}
 use Rattle.f95_tree.specs.WellFormed.{maybe_well_expression, well_range, well_control, well_block}
 use Rattle.f95_expressions.specs.declared.pending.Field.{Field}
 use Rattle.f95_expressions.specs.declared.pending.Spread.{Spread}
@@ -33,16 +35,21 @@ use Rattle.f95_expressions.proofs.Read.{mapped, chained, lone_sound, whole_sound
 use Rattle.f95_expressions.proofs.Found.{row_again, row_sound}
 use Rattle.f95_parts.specs.Views.{is, is_nil, behind, behind_name, behind_keyword, behind_word, at_end, name_at_end}
 use Rattle.f95_parts.specs.Parts.{argument, range_of}
-use Rattle.f95_parts.proofs.ViewLaws.{nil, behind_sound, name_sound, keyword_sound, word_sound, end_sound, more_sound, name_end_sound, name_end_again}
+use Rattle.f95_parts.proofs.ViewLaws.{nil, behind_sound, name_sound, keyword_sound, word_sound, end_sound, more_sound}
+use Rattle.f95_parts.proofs.ViewLaws.{name_end_sound, name_end_again}
 use Rattle.f95_parts.proofs.PartLaws.{lone_again, whole_again, expression_again}
 use Rattle.f95_parts.proofs.FieldLaws.{argument_field, argument_spelled, argument_well}
 use Rattle.f95_parts.proofs.ListLaws.{Is, bracket_list_sound, bracket_list_again, collected_fields}
 use Rattle.f95_parts.proofs.Instances.{ranges}
 use Rattle.f95_statements.specs.Actions.{conditioned}
 use Rattle.f95_statements.specs.Declarations.{or_else}
-use Rattle.f95_statements.proofs.ConditionLaws.{condition_text, brackets_before, conditioned_sound, conditioned_again, condition_again}
+use Rattle.f95_statements.proofs.ConditionLaws.{condition_text, brackets_before, conditioned_sound, conditioned_again}
+use Rattle.f95_statements.proofs.ConditionLaws.{condition_again}
 use Rattle.f95_statements.proofs.TypeLaws.{or_else_sound}
-use Rattle.f95_parser.specs.Reading.{whole_condition, ends_there, is_then, if_block, select_by, select_of, index_of, counted_by, counted_in, counted, while_of, control_by, control_behind, controlled, do_of, opened_by, labelled_by, labelled, label_of, case_ranges, case_in, case_by, case_of, else_if, else_where, else_keyed, else_by, else_of, end_block}
+use Rattle.f95_parser.specs.Reading.{whole_condition, ends_there, is_then, if_block, select_by, select_of, index_of, counted_by}
+use Rattle.f95_parser.specs.Reading.{counted_in, counted, while_of, control_by, control_behind, controlled, do_of, opened_by}
+use Rattle.f95_parser.specs.Reading.{labelled_by, labelled, label_of, case_ranges, case_in, case_by, case_of, else_if, else_where}
+use Rattle.f95_parser.specs.Reading.{else_keyed, else_by, else_of, end_block}
 
 -- ---- what is read
 

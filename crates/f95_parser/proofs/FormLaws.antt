@@ -1,5 +1,6 @@
 -- All forms: what is read is spelled as the terminals and well formed, and what is well formed is read from what spells it.
-use Rattle.std.proofs.Common.{◌≡◌, ℕ, ◌≤◌, true, false, ◌&&◌, List, [], ◌∷◌, ◌++◌, map, Option, Some, None, sym, ◌∙◌, ap, subst, refl, append-nil}
+use Rattle.std.proofs.Common.{◌≡◌, ℕ, ◌≤◌, true, false, ◌&&◌, List, [], ◌∷◌, ◌++◌, map, Option, Some, None, sym, ◌∙◌, ap, subst}
+use Rattle.std.proofs.Common.{refl, append-nil}
 use Rattle.std.specs.Prelude.{option_map, option_and_then, codes, if◌then◌else◌}
 use Rattle.f95_lexer.specs.declared.token.Token.{Token}
 use Rattle.f95_tree.specs.declared.expression.Expression.{Expression}
@@ -26,7 +27,8 @@ use Rattle.f95_tree.specs.declared.form.Heading.{Heading}
 use Rattle.f95_tree.specs.declared.form.Heading.TheVariants as heading_of
 use Rattle.f95_tree.specs.Spelling.{Text, punctuated, commas, in_brackets, maybe, expression, reference, item}
 use Rattle.f95_tree.specs.Grades.{well}
-use Rattle.f95_tree.specs.Forms.{Word, named, label, block_word, unit_word, assignment_text, header_text, action_text, unit_text, block_text, prefixes_text, heading_text, spell_form}
+use Rattle.f95_tree.specs.Forms.{Word, named, label, block_word, unit_word, assignment_text, header_text, action_text, unit_text}
+use Rattle.f95_tree.specs.Forms.{block_text, prefixes_text, heading_text, spell_form}
 use Rattle.f95_tree.specs.WellFormed.{well_assignment, well_header, well_action, well_block, well_unit, well_procedure, well_form}
 use Rattle.f95_tree.proofs.Nodes.{reference-Whole, reference-Items, reference-Substring}
 use Rattle.f95_tree.proofs.Induction.{reference_cases}
@@ -37,14 +39,20 @@ use Rattle.f95_parts.proofs.ViewLaws.{nil, keyword_sound, more_sound, name_end_s
 use Rattle.f95_parts.proofs.ListLaws.{Is}
 use Rattle.f95_statements.specs.Actions.{conditioned, headed, assigned, action_of}
 use Rattle.f95_statements.specs.Declarations.{procedure, procedure_of}
-use Rattle.f95_statements.proofs.ConditionLaws.{condition_text, assigned_sound, assigned_again, conditioned_sound, conditioned_again, condition_again, headed_sound, headed_again, header_alone_again}
+use Rattle.f95_statements.proofs.ConditionLaws.{condition_text, assigned_sound, assigned_again, conditioned_sound}
+use Rattle.f95_statements.proofs.ConditionLaws.{conditioned_again, condition_again, headed_sound, headed_again, header_alone_again}
 use Rattle.f95_statements.proofs.ActionLaws.{action_sound, action_again}
-use Rattle.f95_statements.proofs.ProcedureLaws.{procedure_sound, procedure_again, typed_word_sound, declaration_first, declaration_typed, procedure_first, procedure_typed}
-use Rattle.f95_parser.specs.Reading.{is_then, select_of, do_of, labelled, label_of, case_of, else_of, end_block, end_keyed, end_of, use_of, implicit_of, unit_by, if_by, where_by, forall_by, block_form, keyed_form, named_form, form_by, form_of}
+use Rattle.f95_statements.proofs.ProcedureLaws.{procedure_sound, procedure_again, typed_word_sound, declaration_first}
+use Rattle.f95_statements.proofs.ProcedureLaws.{declaration_typed, procedure_first, procedure_typed}
+use Rattle.f95_parser.specs.Reading.{is_then, select_of, do_of, labelled, label_of, case_of, else_of, end_block, end_keyed, end_of}
+use Rattle.f95_parser.specs.Reading.{use_of, implicit_of, unit_by, if_by, where_by, forall_by, block_form, keyed_form, named_form}
+use Rattle.f95_parser.specs.Reading.{form_by, form_of}
 use Rattle.f95_parser.specs.Tokens.{terminals_of}
 use Rattle.f95_parser.specs.Rules.{IsOfForm, IsFormless, most_open, most_brackets}
 use Rattle.f95_parser.proofs.Unbroken.{IsUnbroken, unbroken_by}
-use Rattle.f95_parser.proofs.BlockLaws.{is_as, chosen, IsBlock, then_sound, if_block_again, select_sound, select_again, do_sound, do_again, labelled_sound, label_sound, case_sound, case_again, else_sound, else_again, else_if_reads, else_where_reads, end_block_sound}
+use Rattle.f95_parser.proofs.BlockLaws.{is_as, chosen, IsBlock, then_sound, if_block_again, select_sound, select_again, do_sound}
+use Rattle.f95_parser.proofs.BlockLaws.{do_again, labelled_sound, label_sound, case_sound, case_again, else_sound, else_again}
+use Rattle.f95_parser.proofs.BlockLaws.{else_if_reads, else_where_reads, end_block_sound}
 use Rattle.f95_parser.proofs.UnitLaws.{IsUnit, use_sound, use_again, implicit_sound, unit_by_sound}
 
 abbrev pub IsForm : Text → Form → Type 0

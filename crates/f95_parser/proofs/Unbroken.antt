@@ -2,7 +2,8 @@
 use Rattle.std.proofs.Common.{◌≡◌, ℕ, ◌≤◌, ◌<◌, Bool, true, false, List, Option, Some, None, refl, arith}
 use Rattle.f95_lexer.specs.declared.token.Token.{Token}
 use Rattle.f95_tree.specs.declared.form.Form.{Form}
-use Rattle.f95_parser.specs.Rules.{IsOfForm, IsFormless, Broken, no_form, left_out, too_many_open, begins_left_out, most_open, most_brackets}
+use Rattle.f95_parser.specs.Rules.{IsOfForm, IsFormless, Broken, no_form, left_out, too_many_open, begins_left_out, most_open}
+use Rattle.f95_parser.specs.Rules.{most_brackets}
 
 -- the tokens break no rule on this line
 abbrev pub IsUnbroken : ℕ → List Token → Type 0

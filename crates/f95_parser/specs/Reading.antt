@@ -1,5 +1,6 @@
 -- Which form some terminals are, if any.
-use Rattle.std.specs.Prelude.{Bool, true, false, List, [], ◌∷◌, Option, Some, None, option_map, option_and_then, codes, if◌then◌else◌}
+use Rattle.std.specs.Prelude.{Bool, true, false, List, [], ◌∷◌, Option, Some, None, option_map, option_and_then, codes}
+use Rattle.std.specs.Prelude.{if◌then◌else◌}
 use Rattle.f95_tree.specs.declared.expression.Expression.{Expression}
 use Rattle.f95_tree.specs.declared.terminal.Punctuation.TheVariants as mark
 use Rattle.f95_tree.specs.declared.terminal.Keyword.{Keyword}
@@ -57,7 +58,9 @@ index_of f = option_and_then whole f.left
 
 abbrev pub counted_by : Bool → Field → Field → Option Expression → Option Control
 counted_by comma index last step =
-    option_and_then (λ n. option_and_then (λ from. option_map (λ to. control_of.Counted comma n from to step) (expression_of last)) (first_in index.spread)) (index_of index)
+    option_and_then
+    (λ n. option_and_then (λ from. option_map (λ to. control_of.Counted comma n from to step) (expression_of last))
+    (first_in index.spread)) (index_of index)
 
 abbrev pub counted_in : Bool → List Field → Option Control
 counted_in comma (z ∷ y ∷ []) = counted_by comma y z None
@@ -115,10 +118,14 @@ abbrev pub case_of : Text → Option BlockForm
 case_of ts = case_by (behind_word (codes "default") ts) ts
 
 abbrev pub else_if : Text → Option BlockForm
-else_if ts = option_and_then (λ p. option_and_then (λ rest. option_map (block_of.ElseIf p.0) (name_at_end rest)) (behind_word (codes "then") p.1)) (conditioned ts)
+else_if ts =
+    option_and_then
+    (λ p. option_and_then (λ rest. option_map (block_of.ElseIf p.0) (name_at_end rest)) (behind_word (codes "then") p.1))
+    (conditioned ts)
 
 abbrev pub else_where : Text → Option BlockForm
-else_where ts = if is_nil ts then Some (block_of.ElseWhere None) else option_map (λ mask. block_of.ElseWhere (Some mask)) (whole_condition ts)
+else_where ts = if is_nil ts then Some (block_of.ElseWhere None) else option_map (λ mask. block_of.ElseWhere (Some mask))
+    (whole_condition ts)
 
 abbrev pub else_keyed : Keyword × Text → Option BlockForm
 else_keyed (keyword.Block block.If, ts) = else_if ts
@@ -152,7 +159,10 @@ end_of ts = if is_nil ts then Some (of.Unit unit_of.End) else option_and_then en
 -- Units.
 
 abbrev pub only_of : Text → Option (List Word)
-only_of ts = option_and_then (λ a. option_and_then (λ b. option_and_then (listed name_of) (behind mark.Colon b)) (behind_word (codes "only") a)) (behind mark.Comma ts)
+only_of ts =
+    option_and_then
+    (λ a. option_and_then (λ b. option_and_then (listed name_of) (behind mark.Colon b)) (behind_word (codes "only") a))
+    (behind mark.Comma ts)
 
 abbrev pub use_named : Word × Text → Option UnitForm
 use_named p = if is_nil p.1 then Some (unit_of.Use p.0 None) else option_map (λ ns. unit_of.Use p.0 (Some ns)) (only_of p.1)
@@ -174,10 +184,12 @@ abbrev pub if_by : Expression × Text → Option Form
 if_by p = if is_then p.1 then Some (of.Block (block_of.If None p.0)) else option_map (of.If p.0) (action_of p.1)
 
 abbrev pub where_by : Expression × Text → Option Form
-where_by p = if is_nil p.1 then Some (of.Block (block_of.Where p.0)) else option_map (λ a. of.Action (act.Where p.0 a)) (assigned p.1)
+where_by p = if is_nil p.1 then Some (of.Block (block_of.Where p.0)) else option_map (λ a. of.Action (act.Where p.0 a))
+    (assigned p.1)
 
 abbrev pub forall_by : Header × Text → Option Form
-forall_by p = if is_nil p.1 then Some (of.Block (block_of.Forall p.0)) else option_map (λ a. of.Action (act.Forall p.0 a)) (assigned p.1)
+forall_by p = if is_nil p.1 then Some (of.Block (block_of.Forall p.0)) else option_map (λ a. of.Action (act.Forall p.0 a))
+    (assigned p.1)
 
 abbrev pub block_form : BlockWord → Text → Option Form
 block_form block.If ts = option_and_then if_by (conditioned ts)

@@ -3,20 +3,23 @@
 ghost use Rattle.std.specs.Prelude.{◌≡◌, [], ◌∷◌, IfOk, option_map, option_and_then};
 ghost use Rattle.f95_expressions.specs.Machine.{row, expression_of, whole, first_in};
 ghost use Rattle.f95_parts.specs.Views.{nothing_more};
-ghost use Rattle.f95_parser.specs.Reading.{whole_condition, is_then, if_block, select_by, select_of, index_of, counted_by, counted_in, counted, while_of, control_by, controlled, do_of, opened_by, labelled, case_in, case_of, else_if, else_where, else_of, end_block};
+ghost use Rattle.f95_parser.specs.Reading.{whole_condition, is_then, if_block, select_by, select_of, index_of, counted_by};
+ghost use Rattle.f95_parser.specs.Reading.{counted_in, counted, while_of, control_by, controlled, do_of, opened_by, labelled};
+ghost use Rattle.f95_parser.specs.Reading.{case_in, case_of, else_if, else_where, else_of, end_block};
 
-use a95_base::{Bytes, Stack};
-use f95_expressions::{Closed, Field, Spread, bracket, expression_of, row, whole};
+use a95_base::{SharedBytes, Stack};
+use f95_expressions::{Closed, Field, Spread, boxed, bracket, expression_of, row, whole};
 use f95_parts::{behind, behind_keyword, behind_word, collected, is_nil, spread_expression};
 use f95_statements::{Condition, conditioned, name_at_end};
 use f95_tree::{BlockForm, BlockWord, Control, Expression, Keyword, Punctuation, Terminal};
+use sqlite_items::Boxed;
 use std::alloc::{AllocError, Global};
 
 /// A condition in brackets with nothing behind them.
 pub fn whole_condition(
     alloc: Global,
     terminals: &[Terminal],
-) -> Result<Option<Expression>, AllocError>
+) -> Result<Option<Boxed<Expression>>, AllocError>
     ensures { IfOk result (λ condition. condition ≡ whole_condition terminals.now) }
 {
     match conditioned(alloc, terminals)? {
@@ -25,6 +28,7 @@ pub fn whole_condition(
             if is_nil(rest) {
                 Ok(Some(expression))
             } else {
+                drop(expression);
                 Ok(None)
             }
         }
@@ -43,124 +47,250 @@ pub fn is_then(terminals: &[Terminal]) -> bool
 
 fn if_block(
     alloc: Global,
-    name: Option<Bytes>,
+    name: Option<SharedBytes>,
     terminals: &[Terminal],
 ) -> Result<Option<BlockForm>, AllocError>
     ensures { IfOk result (λ form. form ≡ if_block name terminals.now) }
 {
-    match conditioned(alloc, terminals)? {
-        None => Ok(None),
-        Some(Condition { expression, rest }) => {
+    match conditioned(alloc, terminals) {
+        Ok(Some(Condition { expression, rest })) => {
             if is_then(rest) {
                 Ok(Some(BlockForm::If(name, expression)))
             } else {
+                drop(name);
+                drop(expression);
                 Ok(None)
             }
+        }
+        Ok(None) => {
+            drop(name);
+            Ok(None)
+        }
+        Err(error) => {
+            drop(name);
+            Err(error)
         }
     }
 }
 
 fn select_by(
     alloc: Global,
-    name: Option<Bytes>,
+    name: Option<SharedBytes>,
     keyword: Keyword,
     rest: &[Terminal],
 ) -> Result<Option<BlockForm>, AllocError>
     ensures { IfOk result (λ form. form ≡ select_by name keyword rest.now) }
 {
     match keyword {
-        Keyword::Case => match whole_condition(alloc, rest)? {
-            None => Ok(None),
-            Some(selector) => Ok(Some(BlockForm::Select(name, selector))),
+        Keyword::Case => match whole_condition(alloc, rest) {
+            Ok(Some(selector)) => Ok(Some(BlockForm::Select(name, selector))),
+            Ok(None) => {
+                drop(name);
+                Ok(None)
+            }
+            Err(error) => {
+                drop(name);
+                Err(error)
+            }
         },
-        _ => Ok(None),
+        _ => {
+            drop(name);
+            Ok(None)
+        }
     }
 }
 
 pub fn select_of(
     alloc: Global,
-    name: Option<Bytes>,
+    name: Option<SharedBytes>,
     terminals: &[Terminal],
 ) -> Result<Option<BlockForm>, AllocError>
     ensures { IfOk result (λ form. form ≡ select_of name terminals.now) }
 {
     match behind_keyword(terminals) {
-        None => Ok(None),
+        None => {
+            drop(name);
+            Ok(None)
+        }
         Some(keyed) => select_by(alloc, name, keyed.keyword, keyed.rest),
     }
 }
 
-fn index_name(left: Option<Expression>) -> Option<Bytes>
+fn index_name(left: Option<Expression>) -> Option<SharedBytes>
     ensures { result ≡ option_and_then whole left }
 {
     whole(left?)
 }
 
-fn counted_to(
+/// The control, with each of its expressions in a box of its own.
+fn counted_with(
+    alloc: Global,
     comma: bool,
-    name: Bytes,
+    name: SharedBytes,
+    first: Expression,
+    last: Expression,
+    step: Option<Expression>,
+) -> Result<Control, AllocError>
+    ensures { IfOk result (λ control. control ≡ Control.Counted comma name first last step) }
+{
+    let first = match Boxed::new(alloc, first) {
+        Ok(first) => first,
+        Err(error) => {
+            drop(name);
+            drop(last);
+            drop(step);
+            return Err(error);
+        }
+    };
+    let last = match Boxed::new(alloc, last) {
+        Ok(last) => last,
+        Err(error) => {
+            drop(name);
+            drop(first);
+            drop(step);
+            return Err(error);
+        }
+    };
+    match boxed(alloc, step) {
+        Ok(step) => Ok(Control::Counted(comma, name, first, last, step)),
+        Err(error) => {
+            drop(name);
+            drop(first);
+            drop(last);
+            Err(error)
+        }
+    }
+}
+
+fn counted_to(
+    alloc: Global,
+    comma: bool,
+    name: SharedBytes,
     first: Expression,
     last: Field,
     step: Option<Expression>,
-) -> Option<Control>
-    ensures { result ≡ option_map (λ to. Control.Counted comma name first to step) (expression_of last) }
+) -> Result<Option<Control>, AllocError>
+    ensures { IfOk result (λ control. control
+        ≡ option_map (λ to. Control.Counted comma name first to step) (expression_of last)) }
 {
-    let last = expression_of(last)?;
-    Some(Control::Counted(comma, name, first, last, step))
+    let Some(last) = expression_of(last) else {
+        drop(name);
+        drop(first);
+        drop(step);
+        return Ok(None);
+    };
+    let control = counted_with(alloc, comma, name, first, last, step)?;
+    Ok(Some(control))
 }
 
 fn counted_from(
+    alloc: Global,
     comma: bool,
-    name: Bytes,
+    name: SharedBytes,
     spread: Spread,
     last: Field,
     step: Option<Expression>,
-) -> Option<Control>
-    ensures { result ≡ option_and_then (λ from. option_map (λ to. Control.Counted comma name from to step) (expression_of last)) (first_in spread) }
+) -> Result<Option<Control>, AllocError>
+    ensures { IfOk result (λ control. control ≡ option_and_then
+        (λ from. option_map (λ to. Control.Counted comma name from to step) (expression_of last)) (first_in spread)) }
 {
     match spread_expression(spread) {
-        None => None,
-        Some(first) => counted_to(comma, name, first, last, step),
+        None => {
+            drop(name);
+            drop(last);
+            drop(step);
+            Ok(None)
+        }
+        Some(first) => counted_to(alloc, comma, name, first, last, step),
     }
 }
 
-fn counted_by(comma: bool, index: Field, last: Field, step: Option<Expression>) -> Option<Control>
-    ensures { result ≡ counted_by comma index last step }
+fn counted_by(
+    alloc: Global,
+    comma: bool,
+    index: Field,
+    last: Field,
+    step: Option<Expression>,
+) -> Result<Option<Control>, AllocError>
+    ensures { IfOk result (λ control. control ≡ counted_by comma index last step) }
 {
     let Field { left, spread } = index;
     match index_name(left) {
-        None => None,
-        Some(name) => counted_from(comma, name, spread, last, step),
+        None => {
+            drop(spread);
+            drop(last);
+            drop(step);
+            Ok(None)
+        }
+        Some(name) => counted_from(alloc, comma, name, spread, last, step),
     }
 }
 
-fn counted_two(comma: bool, fields: Stack<Field>, index: Field, last: Field) -> Option<Control>
-    ensures { result ≡ counted_in comma (last ∷ index ∷ fields) }
+fn counted_two(
+    alloc: Global,
+    comma: bool,
+    fields: Stack<Field>,
+    index: Field,
+    last: Field,
+) -> Result<Option<Control>, AllocError>
+    ensures { IfOk result (λ control. control ≡ counted_in comma (last ∷ index ∷ fields)) }
 {
     let mut fields = fields;
     let Some(third) = fields.pop() else {
-        return counted_by(comma, index, last, None);
+        drop(fields);
+        return counted_by(alloc, comma, index, last, None);
     };
     match fields.top() {
-        Some(_) => None,
-        None => counted_three(comma, third, index, last),
+        Some(_) => {
+            drop(fields);
+            drop(third);
+            drop(index);
+            drop(last);
+            Ok(None)
+        }
+        None => {
+            drop(fields);
+            counted_three(alloc, comma, third, index, last)
+        }
     }
 }
 
-fn counted_three(comma: bool, index: Field, last: Field, step: Field) -> Option<Control>
-    ensures { result ≡ option_and_then (λ step. counted_by comma index last (Some step)) (expression_of step) }
+fn counted_three(
+    alloc: Global,
+    comma: bool,
+    index: Field,
+    last: Field,
+    step: Field,
+) -> Result<Option<Control>, AllocError>
+    ensures { IfOk result (λ control. control
+        ≡ option_and_then (λ step. counted_by comma index last (Some step)) (expression_of step)) }
 {
-    let step = expression_of(step)?;
-    counted_by(comma, index, last, Some(step))
+    let Some(step) = expression_of(step) else {
+        drop(index);
+        drop(last);
+        return Ok(None);
+    };
+    counted_by(alloc, comma, index, last, Some(step))
 }
 
-fn counted_in(comma: bool, fields: Stack<Field>) -> Option<Control>
-    ensures { result ≡ counted_in comma fields }
+fn counted_in(
+    alloc: Global,
+    comma: bool,
+    fields: Stack<Field>,
+) -> Result<Option<Control>, AllocError>
+    ensures { IfOk result (λ control. control ≡ counted_in comma fields) }
 {
     let mut fields = fields;
-    let last = fields.pop()?;
-    let before = fields.pop()?;
-    counted_two(comma, fields, before, last)
+    let Some(last) = fields.pop() else {
+        drop(fields);
+        return Ok(None);
+    };
+    let Some(before) = fields.pop() else {
+        drop(fields);
+        drop(last);
+        return Ok(None);
+    };
+    counted_two(alloc, comma, fields, before, last)
 }
 
 fn counted(
@@ -172,7 +302,7 @@ fn counted(
 {
     match row(alloc, terminals)? {
         None => Ok(None),
-        Some(fields) => Ok(counted_in(comma, fields)),
+        Some(fields) => counted_in(alloc, comma, fields),
     }
 }
 
@@ -217,22 +347,41 @@ fn controlled(alloc: Global, terminals: &[Terminal]) -> Result<Option<Control>, 
     }
 }
 
+fn boxed_control(
+    alloc: Global,
+    terminals: &[Terminal],
+) -> Result<Option<Boxed<Control>>, AllocError>
+    ensures { IfOk result (λ control. control ≡ controlled terminals.now) }
+{
+    match controlled(alloc, terminals)? {
+        None => Ok(None),
+        Some(control) => Ok(Some(Boxed::new(alloc, control)?)),
+    }
+}
+
 pub fn do_of(
     alloc: Global,
-    name: Option<Bytes>,
+    name: Option<SharedBytes>,
     terminals: &[Terminal],
 ) -> Result<Option<BlockForm>, AllocError>
     ensures { IfOk result (λ form. form ≡ do_of name terminals.now) }
 {
-    match controlled(alloc, terminals)? {
-        None => Ok(None),
-        Some(control) => Ok(Some(BlockForm::Do(name, control))),
+    match boxed_control(alloc, terminals) {
+        Ok(Some(control)) => Ok(Some(BlockForm::Do(name, control))),
+        Ok(None) => {
+            drop(name);
+            Ok(None)
+        }
+        Err(error) => {
+            drop(name);
+            Err(error)
+        }
     }
 }
 
 fn opened_by(
     alloc: Global,
-    name: Option<Bytes>,
+    name: Option<SharedBytes>,
     word: BlockWord,
     terminals: &[Terminal],
 ) -> Result<Option<BlockForm>, AllocError>
@@ -242,14 +391,17 @@ fn opened_by(
         BlockWord::If => if_block(alloc, name, terminals),
         BlockWord::Select => select_of(alloc, name, terminals),
         BlockWord::Do => do_of(alloc, name, terminals),
-        _ => Ok(None),
+        _ => {
+            drop(name);
+            Ok(None)
+        }
     }
 }
 
 /// IF, SELECT or DO behind a name and a colon.
 pub fn labelled(
     alloc: Global,
-    name: &Bytes,
+    name: &SharedBytes,
     terminals: &[Terminal],
 ) -> Result<Option<BlockForm>, AllocError>
     ensures { IfOk result (λ form. form ≡ labelled name.now terminals.now) }
@@ -259,7 +411,7 @@ pub fn labelled(
     };
     match keyed.keyword {
         Keyword::Block(word) => {
-            let name = name.copy(alloc)?;
+            let name = name.share()?;
             opened_by(alloc, Some(name), word, keyed.rest)
         }
         _ => Ok(None),
@@ -278,9 +430,17 @@ fn case_in(alloc: Global, terminals: &[Terminal]) -> Result<Option<BlockForm>, A
     let Some(ranges) = collected(alloc, fields)? else {
         return Ok(None);
     };
-    match name_at_end(alloc, rest)? {
-        None => Ok(None),
-        Some(name) => Ok(Some(BlockForm::Case(ranges, name))),
+    let ranges = Boxed::new(alloc, ranges)?;
+    match name_at_end(rest) {
+        Ok(Some(name)) => Ok(Some(BlockForm::Case(ranges, name))),
+        Ok(None) => {
+            drop(ranges);
+            Ok(None)
+        }
+        Err(error) => {
+            drop(ranges);
+            Err(error)
+        }
     }
 }
 
@@ -290,7 +450,7 @@ pub fn case_of(alloc: Global, terminals: &[Terminal]) -> Result<Option<BlockForm
     let Some(rest) = behind_word(b"default", terminals) else {
         return case_in(alloc, terminals);
     };
-    match name_at_end(alloc, rest)? {
+    match name_at_end(rest)? {
         None => Ok(None),
         Some(name) => Ok(Some(BlockForm::CaseDefault(name))),
     }
@@ -303,11 +463,19 @@ fn else_if(alloc: Global, terminals: &[Terminal]) -> Result<Option<BlockForm>, A
         return Ok(None);
     };
     let Some(end) = behind_word(b"then", rest) else {
+        drop(expression);
         return Ok(None);
     };
-    match name_at_end(alloc, end)? {
-        None => Ok(None),
-        Some(name) => Ok(Some(BlockForm::ElseIf(expression, name))),
+    match name_at_end(end) {
+        Ok(Some(name)) => Ok(Some(BlockForm::ElseIf(expression, name))),
+        Ok(None) => {
+            drop(expression);
+            Ok(None)
+        }
+        Err(error) => {
+            drop(expression);
+            Err(error)
+        }
     }
 }
 
@@ -327,7 +495,7 @@ pub fn else_of(alloc: Global, terminals: &[Terminal]) -> Result<Option<BlockForm
     ensures { IfOk result (λ form. form ≡ else_of terminals.now) }
 {
     let Some(keyed) = behind_keyword(terminals) else {
-        return match name_at_end(alloc, terminals)? {
+        return match name_at_end(terminals)? {
             None => Ok(None),
             Some(name) => Ok(Some(BlockForm::Else(name))),
         };
@@ -342,26 +510,27 @@ pub fn else_of(alloc: Global, terminals: &[Terminal]) -> Result<Option<BlockForm
 fn nothing_more(form: BlockForm, terminals: &[Terminal]) -> Option<BlockForm>
     ensures { result ≡ nothing_more form terminals.now }
 {
-    if is_nil(terminals) { Some(form) } else { None }
+    if is_nil(terminals) {
+        Some(form)
+    } else {
+        drop(form);
+        None
+    }
 }
 
-pub fn end_block(
-    alloc: Global,
-    word: BlockWord,
-    terminals: &[Terminal],
-) -> Result<Option<BlockForm>, AllocError>
+pub fn end_block(word: BlockWord, terminals: &[Terminal]) -> Result<Option<BlockForm>, AllocError>
     ensures { IfOk result (λ form. form ≡ end_block word terminals.now) }
 {
     match word {
-        BlockWord::If => match name_at_end(alloc, terminals)? {
+        BlockWord::If => match name_at_end(terminals)? {
             None => Ok(None),
             Some(name) => Ok(Some(BlockForm::EndIf(name))),
         },
-        BlockWord::Select => match name_at_end(alloc, terminals)? {
+        BlockWord::Select => match name_at_end(terminals)? {
             None => Ok(None),
             Some(name) => Ok(Some(BlockForm::EndSelect(name))),
         },
-        BlockWord::Do => match name_at_end(alloc, terminals)? {
+        BlockWord::Do => match name_at_end(terminals)? {
             None => Ok(None),
             Some(name) => Ok(Some(BlockForm::EndDo(name))),
         },

@@ -4,10 +4,11 @@ ghost use Rattle.std.specs.Prelude.{◌≡◌, [], ◌∷◌, IfOk, option_map, 
 ghost use Rattle.f95_parts.specs.Views.{nothing_more, behind_name, at_end};
 ghost use Rattle.f95_statements.specs.Actions.{action_of};
 ghost use Rattle.f95_statements.specs.Declarations.{procedure_of};
-ghost use Rattle.f95_parser.specs.Reading.{end_keyed, end_of, only_of, use_named, use_of, implicit_of, unit_by, if_by, where_by, forall_by, block_form, keyed_form, label_of, named_form, form_of};
+ghost use Rattle.f95_parser.specs.Reading.{end_keyed, end_of, only_of, use_named, use_of, implicit_of, unit_by, if_by, where_by};
+ghost use Rattle.f95_parser.specs.Reading.{forall_by, block_form, keyed_form, label_of, named_form, form_of};
 
 use crate::block::{case_of, do_of, else_of, end_block, is_then, labelled, select_of};
-use a95_base::Bytes;
+use a95_base::SharedBytes;
 use f95_parts::{Keyed, Named, behind, behind_keyword, behind_name, behind_word, is_nil};
 use f95_statements::{
     Condition, HeaderAt, action_of, assigned, conditioned, headed, listed, name_at_end,
@@ -16,19 +17,19 @@ use f95_statements::{
 use f95_tree::{
     Action, BlockForm, BlockWord, Form, Keyword, Punctuation, Terminal, UnitForm, UnitWord,
 };
-use sqlite_items::Items;
+use sqlite_items::{Boxed, Items};
 use std::alloc::{AllocError, Global};
 
-fn end_keyed(alloc: Global, keyed: Keyed<'_>) -> Result<Option<Form>, AllocError>
+fn end_keyed(keyed: Keyed<'_>) -> Result<Option<Form>, AllocError>
     ensures { IfOk result (λ form. form ≡ end_keyed (keyed.entry.keyword, keyed.entry.rest.now)) }
 {
     let Keyed { keyword, rest } = keyed;
     match keyword {
-        Keyword::Unit(word) => match name_at_end(alloc, rest)? {
+        Keyword::Unit(word) => match name_at_end(rest)? {
             None => Ok(None),
             Some(name) => Ok(Some(Form::Unit(UnitForm::EndUnit(word, name)))),
         },
-        Keyword::Block(word) => match end_block(alloc, word, rest)? {
+        Keyword::Block(word) => match end_block(word, rest)? {
             None => Ok(None),
             Some(form) => Ok(Some(Form::Block(form))),
         },
@@ -36,7 +37,7 @@ fn end_keyed(alloc: Global, keyed: Keyed<'_>) -> Result<Option<Form>, AllocError
     }
 }
 
-fn end_of(alloc: Global, terminals: &[Terminal]) -> Result<Option<Form>, AllocError>
+fn end_of(terminals: &[Terminal]) -> Result<Option<Form>, AllocError>
     ensures { IfOk result (λ form. form ≡ end_of terminals.now) }
 {
     if is_nil(terminals) {
@@ -44,12 +45,15 @@ fn end_of(alloc: Global, terminals: &[Terminal]) -> Result<Option<Form>, AllocEr
     }
     match behind_keyword(terminals) {
         None => Ok(None),
-        Some(keyed) => end_keyed(alloc, keyed),
+        Some(keyed) => end_keyed(keyed),
     }
 }
 
 /// The names behind ONLY.
-fn only_of(alloc: Global, terminals: &[Terminal]) -> Result<Option<Items<Bytes>>, AllocError>
+fn only_of(
+    alloc: Global,
+    terminals: &[Terminal],
+) -> Result<Option<Boxed<Items<SharedBytes>>>, AllocError>
     ensures { IfOk result (λ names. names ≡ only_of terminals.now) }
 {
     let Some(word) = behind(Punctuation::Comma, terminals) else {
@@ -60,20 +64,30 @@ fn only_of(alloc: Global, terminals: &[Terminal]) -> Result<Option<Items<Bytes>>
     };
     match behind(Punctuation::Colon, colon) {
         None => Ok(None),
-        Some(names) => listed(alloc, names),
+        Some(rest) => match listed(alloc, rest)? {
+            None => Ok(None),
+            Some(names) => Ok(Some(Boxed::new(alloc, names)?)),
+        },
     }
 }
 
 fn use_named(alloc: Global, named: Named<'_>) -> Result<Option<UnitForm>, AllocError>
     ensures { IfOk result (λ form. form ≡ use_named (named.entry.name.now, named.entry.rest.now)) }
 {
-    let name = named.name.copy(alloc)?;
+    let name = named.name.share()?;
     if is_nil(named.rest) {
         return Ok(Some(UnitForm::Use(name, None)));
     }
-    match only_of(alloc, named.rest)? {
-        None => Ok(None),
-        Some(names) => Ok(Some(UnitForm::Use(name, Some(names)))),
+    match only_of(alloc, named.rest) {
+        Ok(Some(names)) => Ok(Some(UnitForm::Use(name, Some(names)))),
+        Ok(None) => {
+            drop(name);
+            Ok(None)
+        }
+        Err(error) => {
+            drop(name);
+            Err(error)
+        }
     }
 }
 
@@ -98,14 +112,14 @@ fn implicit_of(terminals: &[Terminal]) -> Option<UnitForm>
 }
 
 /// A name with nothing behind it.
-fn only_name(alloc: Global, terminals: &[Terminal]) -> Result<Option<Bytes>, AllocError>
+fn only_name(terminals: &[Terminal]) -> Result<Option<SharedBytes>, AllocError>
     ensures { IfOk result (λ name. name ≡ option_and_then at_end (behind_name terminals.now)) }
 {
     let Some(named) = behind_name(terminals) else {
         return Ok(None);
     };
     if is_nil(named.rest) {
-        let name = named.name.copy(alloc)?;
+        let name = named.name.share()?;
         Ok(Some(name))
     } else {
         Ok(None)
@@ -121,17 +135,17 @@ fn unit_by(
     ensures { IfOk result (λ form. form ≡ unit_by word rest.now all.now) }
 {
     match word {
-        UnitWord::Program => match only_name(alloc, rest)? {
+        UnitWord::Program => match only_name(rest)? {
             None => Ok(None),
             Some(name) => Ok(Some(UnitForm::Program(name))),
         },
-        UnitWord::Module => match only_name(alloc, rest)? {
+        UnitWord::Module => match only_name(rest)? {
             None => Ok(None),
             Some(name) => Ok(Some(UnitForm::Module(name))),
         },
         _ => match procedure_of(alloc, all)? {
             None => Ok(None),
-            Some(procedure) => Ok(Some(UnitForm::Procedure(procedure))),
+            Some(procedure) => Ok(Some(UnitForm::Procedure(Boxed::new(alloc, procedure)?))),
         },
     }
 }
@@ -143,9 +157,22 @@ fn if_by(alloc: Global, condition: Condition<'_>) -> Result<Option<Form>, AllocE
     if is_then(rest) {
         return Ok(Some(Form::Block(BlockForm::If(None, expression))));
     }
-    match action_of(alloc, rest)? {
-        None => Ok(None),
-        Some(action) => Ok(Some(Form::If(expression, action))),
+    match action_of(alloc, rest) {
+        Ok(Some(action)) => match Boxed::new(alloc, action) {
+            Ok(action) => Ok(Some(Form::If(expression, action))),
+            Err(error) => {
+                drop(expression);
+                Err(error)
+            }
+        },
+        Ok(None) => {
+            drop(expression);
+            Ok(None)
+        }
+        Err(error) => {
+            drop(expression);
+            Err(error)
+        }
     }
 }
 
@@ -156,9 +183,16 @@ fn where_by(alloc: Global, condition: Condition<'_>) -> Result<Option<Form>, All
     if is_nil(rest) {
         return Ok(Some(Form::Block(BlockForm::Where(expression))));
     }
-    match assigned(alloc, rest)? {
-        None => Ok(None),
-        Some(assignment) => Ok(Some(Form::Action(Action::Where(expression, assignment)))),
+    match assigned(alloc, rest) {
+        Ok(Some(assignment)) => Ok(Some(Form::Action(Action::Where(expression, assignment)))),
+        Ok(None) => {
+            drop(expression);
+            Ok(None)
+        }
+        Err(error) => {
+            drop(expression);
+            Err(error)
+        }
     }
 }
 
@@ -169,9 +203,16 @@ fn forall_by(alloc: Global, headed: HeaderAt<'_>) -> Result<Option<Form>, AllocE
     if is_nil(rest) {
         return Ok(Some(Form::Block(BlockForm::Forall(header))));
     }
-    match assigned(alloc, rest)? {
-        None => Ok(None),
-        Some(assignment) => Ok(Some(Form::Action(Action::Forall(header, assignment)))),
+    match assigned(alloc, rest) {
+        Ok(Some(assignment)) => Ok(Some(Form::Action(Action::Forall(header, assignment)))),
+        Ok(None) => {
+            drop(header);
+            Ok(None)
+        }
+        Err(error) => {
+            drop(header);
+            Err(error)
+        }
     }
 }
 
@@ -217,7 +258,10 @@ fn procedure_form(alloc: Global, all: &[Terminal]) -> Result<Option<Form>, Alloc
 {
     match procedure_of(alloc, all)? {
         None => Ok(None),
-        Some(procedure) => Ok(Some(Form::Unit(UnitForm::Procedure(procedure)))),
+        Some(procedure) => {
+            let procedure = Boxed::new(alloc, procedure)?;
+            Ok(Some(Form::Unit(UnitForm::Procedure(procedure))))
+        }
     }
 }
 
@@ -261,7 +305,7 @@ fn keyed_form(
         Keyword::Case => Ok(as_block(case_of(alloc, rest)?)),
         Keyword::Contains => Ok(contains_form(rest)),
         Keyword::Else => Ok(as_block(else_of(alloc, rest)?)),
-        Keyword::End => end_of(alloc, rest),
+        Keyword::End => end_of(rest),
         Keyword::Implicit => Ok(as_unit(implicit_of(rest))),
         Keyword::Use => Ok(as_unit(use_of(alloc, rest)?)),
     }

@@ -11,5 +11,6 @@ pub fn one_form()
 
 /// Tokens that break no rule are of a form, and open few brackets.
 pub fn unbroken_form()
-    ensures { (line : ℕ) (tokens : List Token) → ((l r : ℕ) → Broken line tokens l r → ⊥) → (form : Form) × IsOfForm tokens form × (most_open 0 tokens ≤ most_brackets) }
+    ensures { (line : ℕ) (tokens : List Token) → ((l r : ℕ) → Broken line tokens l r → ⊥) → (form : Form) × IsOfForm tokens form
+        × (most_open 0 tokens ≤ most_brackets) }
 {}

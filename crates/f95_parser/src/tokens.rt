@@ -2,23 +2,24 @@
 
 ghost use Rattle.std.specs.Prelude.{◌≡◌, ◌≤◌, ◌<◌, ◌+◌, ◌++◌, ◌∷◌, [], ◌^◌, max, length, IfOk, OnOk};
 ghost use Rattle.f95_parser.specs.Words.{reserved};
-ghost use Rattle.f95_parser.specs.Tokens.{words_of, dotted, inside, operated, marked, terminals_at, marks_open, open_behind, terminals_of};
+ghost use Rattle.f95_parser.specs.Tokens.{words_of, dotted, inside, operated, marked, terminals_at, marks_open, open_behind};
+ghost use Rattle.f95_parser.specs.Tokens.{terminals_of};
 ghost use Rattle.f95_parser.specs.Rules.{most_open};
 
 use crate::words::reserved;
-use a95_base::Bytes;
+use a95_base::SharedBytes;
 use f95_lexer::{Mark, Token};
 use f95_parts::is;
 use f95_tree::{Literal, Operator, Punctuation, Relation, Terminal};
 use sqlite_items::Items;
 use std::alloc::{AllocError, Global};
 
-fn put_word(alloc: Global, terminals: &mut Items<Terminal>, word: &Bytes) -> Result<(), AllocError>
+fn put_word(terminals: &mut Items<Terminal>, word: &SharedBytes) -> Result<(), AllocError>
     ensures { OnOk result (terminals.new ≡ terminals.old ++ words_of word.now (reserved word.now)) }
 {
     match reserved(word.as_slice()) {
         None => {
-            let word = word.copy(alloc)?;
+            let word = word.share()?;
             terminals.push(Terminal::Name(word))?;
         }
         Some((keyword, None)) => terminals.push(Terminal::Keyword(keyword))?,
@@ -139,22 +140,17 @@ fn put_symbol(terminals: &mut Items<Terminal>, depth: usize, mark: Mark) -> Resu
     }
 }
 
-fn put_token(
-    alloc: Global,
-    terminals: &mut Items<Terminal>,
-    depth: usize,
-    token: &Token,
-) -> Result<(), AllocError>
+fn put_token(terminals: &mut Items<Terminal>, depth: usize, token: &Token) -> Result<(), AllocError>
     ensures { OnOk result (terminals.new ≡ terminals.old ++ terminals_at depth token.now) }
 {
     match token {
-        Token::Word(word) => put_word(alloc, terminals, word),
+        Token::Word(word) => put_word(terminals, word),
         Token::Number(number) => {
             terminals.push(Terminal::Literal(Literal::Number(*number)))?;
             Ok(())
         }
         Token::Text(text) => {
-            let text = text.copy(alloc)?;
+            let text = text.share()?;
             terminals.push(Terminal::Literal(Literal::Text(text)))?;
             Ok(())
         }
@@ -197,7 +193,7 @@ pub fn terminals_of(alloc: Global, tokens: &[Token]) -> Result<Items<Terminal>, 
     let mut terminals = Items::new(alloc);
     let mut depth = 0;
     for token in tokens {
-        put_token(alloc, &mut terminals, depth, token)?;
+        put_token(&mut terminals, depth, token)?;
         depth = open_behind(depth, token);
     }
     Ok(terminals)

@@ -1,7 +1,9 @@
 //! Reserved words, and words that are left out, as `specs/Words` says.
 
 ghost use Rattle.std.specs.Prelude.{◌≡◌, option_map};
-ghost use Rattle.f95_parser.specs.Words.{one, two, action_word, block_word, end_word, reserved, is_left_out_shape, is_left_out_trait, is_left_out_access, is_left_out_jump, is_left_out_transfer, is_left_out};
+ghost use Rattle.f95_parser.specs.Words.{one, two, action_word, block_word, end_word, reserved, is_left_out_shape};
+ghost use Rattle.f95_parser.specs.Words.{is_left_out_trait, is_left_out_access, is_left_out_jump, is_left_out_transfer};
+ghost use Rattle.f95_parser.specs.Words.{is_left_out};
 
 use f95_parts::is;
 use f95_tree::{ActionWord, BlockWord, Keyword, PrefixWord, TypeWord, UnitWord};

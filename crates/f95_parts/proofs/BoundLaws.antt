@@ -1,5 +1,6 @@
 -- Dimensions, bounds and what has them: spelled as the fields that they are taken from, and taken again.
-use Rattle.std.proofs.Common.{◌≡◌, ℕ, Bool, true, false, ◌&&◌, List, [], ◌∷◌, ◌++◌, map, Option, Some, None, sym, ◌∙◌, ap, refl, append_assoc, append-nil}
+use Rattle.std.proofs.Common.{◌≡◌, ℕ, Bool, true, false, ◌&&◌, List, [], ◌∷◌, ◌++◌, map, Option, Some, None, sym, ◌∙◌, ap, refl}
+use Rattle.std.proofs.Common.{append_assoc, append-nil}
 use Rattle.std.specs.Prelude.{option_map, option_and_then, if◌then◌else◌}
 use Rattle.std.proofs.Math.Bool.{and-true}
 use Rattle.f95_tree.specs.declared.expression.Expression.{Expression}
@@ -21,14 +22,16 @@ use Rattle.f95_tree.specs.Spelling.{Text, punctuated, behind_commas, commas, in_
 use Rattle.f95_tree.specs.Grades.{all, some, well, well_item, well_reference}
 use Rattle.f95_tree.specs.Forms.{Word, dim_text, dims_text, maybe_dims, entity_text, bound_text, allocation_text}
 use Rattle.f95_tree.specs.WellFormed.{well_dim, well_dims, well_bound, well_allocation}
-use Rattle.f95_tree.proofs.Nodes.{item-Plain, item-Triplet, well_item-Plain, well_item-Triplet, reference-Whole, reference-Items, well_reference-Whole, well_reference-Items}
+use Rattle.f95_tree.proofs.Nodes.{item-Plain, item-Triplet, well_item-Plain, well_item-Triplet, reference-Whole, reference-Items}
+use Rattle.f95_tree.proofs.Nodes.{well_reference-Whole, well_reference-Items}
 use Rattle.f95_tree.proofs.Views.{seen-Plain, seen-Keyword, seen-Triplet, seen-Whole, seen-Items, seen-Substring}
 use Rattle.f95_tree.proofs.Induction.{item_cases, reference_cases}
 use Rattle.f95_expressions.specs.declared.pending.Field.{Field}
 use Rattle.f95_expressions.specs.Fields.{field_text, well_field}
 use Rattle.f95_expressions.proofs.Lists.{both, joined}
 use Rattle.f95_expressions.proofs.Read.{mapped, chained}
-use Rattle.f95_parts.specs.Parts.{picked, filled, dim_of, dim_in, dim_of_bounds, dims_of, bound_of, bound_in, bound_of_bounds, bounds_of, reference_of, allocation, allocation_in, allocation_named, allocation_of}
+use Rattle.f95_parts.specs.Parts.{picked, filled, dim_of, dim_in, dim_of_bounds, dims_of, bound_of, bound_in, bound_of_bounds}
+use Rattle.f95_parts.specs.Parts.{bounds_of, reference_of, allocation, allocation_in, allocation_named, allocation_of}
 use Rattle.f95_parts.proofs.PartLaws.{reference_field, reference_sound, reference_again, reference_text, reference_well}
 
 -- ---- dimensions
@@ -65,7 +68,8 @@ dim_again dim.Deferred = ap dim_in (seen-Triplet None None None)
 
 dim_spelled : (d : Dim) → item (dim_item d) ≡ dim_text d
 dim_spelled (dim.Upper u) = item-Plain u
-dim_spelled (dim.Both l u) = item-Triplet (Some l) (Some u) None ∙ ap (λ t. expression l ++ punctuated mark.Colon t) (append-nil (expression u))
+dim_spelled (dim.Both l u) = item-Triplet (Some l) (Some u) None
+    ∙ ap (λ t. expression l ++ punctuated mark.Colon t) (append-nil (expression u))
 dim_spelled (dim.Lower l) = item-Triplet (Some l) None None
 dim_spelled dim.Deferred = item-Triplet None None None
 
@@ -102,7 +106,8 @@ bound_again (bound.Both l u) = ap bound_in (seen-Triplet (Some l) (Some u) None)
 
 bound_spelled : (d : Bound) → item (bound_item d) ≡ bound_text d
 bound_spelled (bound.Upper u) = item-Plain u
-bound_spelled (bound.Both l u) = item-Triplet (Some l) (Some u) None ∙ ap (λ t. expression l ++ punctuated mark.Colon t) (append-nil (expression u))
+bound_spelled (bound.Both l u) = item-Triplet (Some l) (Some u) None
+    ∙ ap (λ t. expression l ++ punctuated mark.Colon t) (append-nil (expression u))
 
 bound_well : (d : Bound) → well_item (bound_item d) ≡ well_bound d
 bound_well (bound.Upper u) = well_item-Plain u
@@ -117,7 +122,8 @@ record Picked {A : Type 0} (g : A → Item) (done bs : List A) (xs : List Item) 
 
 picked_sound : {A : Type 0} (make : Item → Option A) (g : A → Item) → ((x : Item) (a : A) → make x ≡ Some a → x ≡ g a) →
     (done bs : List A) (xs : List Item) → picked make done xs ≡ Some bs → Picked g done bs xs
-picked_sound make g sound done bs [] h = let q : done ≡ bs = cc in record { rest = []; all_of = sym q ∙ sym (append-nil done); items = refl }
+picked_sound make g sound done bs [] h = let q : done ≡ bs = cc in
+    record { rest = []; all_of = sym q ∙ sym (append-nil done); items = refl }
 picked_sound make g sound done bs (x ∷ xs) h = chained (λ a. picked make (done ++ a ∷ []) xs) (make x) bs h (λ a ha hs.
     let more = picked_sound make g sound (done ++ a ∷ []) bs xs hs in record {
       rest = a ∷ more.rest;
@@ -144,11 +150,14 @@ filled_again : {A : Type 0} (xs : List A) → some xs ≡ true → filled xs ≡
 filled_again [] h = absurd (cc)
 filled_again (x ∷ xs) h = refl
 
-pub same_texts : {A : Type 0} (g : A → Item) (text : A → Text) → ((a : A) → item (g a) ≡ text a) → (as' : List A) → map item (map g as') ≡ map text as'
+pub same_texts : {A : Type 0} (g : A → Item) (text : A → Text) → ((a : A) → item (g a) ≡ text a) → (as' : List A) →
+    map item (map g as') ≡ map text as'
 same_texts g text same [] = refl
-same_texts g text same (a ∷ more) = ap (λ t. t ∷ map item (map g more)) (same a) ∙ ap (λ ts. text a ∷ ts) (same_texts g text same more)
+same_texts g text same (a ∷ more) = ap (λ t. t ∷ map item (map g more)) (same a)
+    ∙ ap (λ ts. text a ∷ ts) (same_texts g text same more)
 
-pub same_wells : {A : Type 0} (g : A → Item) (w : A → Bool) → ((a : A) → well_item (g a) ≡ w a) → (as' : List A) → map well_item (map g as') ≡ map w as'
+pub same_wells : {A : Type 0} (g : A → Item) (w : A → Bool) → ((a : A) → well_item (g a) ≡ w a) → (as' : List A) →
+    map well_item (map g as') ≡ map w as'
 same_wells g w same [] = refl
 same_wells g w same (a ∷ more) = ap (λ t. t ∷ map well_item (map g more)) (same a) ∙ ap (λ ts. w a ∷ ts) (same_wells g w same more)
 
@@ -187,7 +196,8 @@ allocation_sound_in : (x : Reference) → AllocationSound x
 allocation_sound_in = reference_cases AllocationSound
     (λ n a h. let q = sym (ap allocation_in (seen-Whole n)) ∙ h in absurd (cc))
     (λ n xs a h. mapped (allocation n) (bounds_of xs) a (sym (ap allocation_in (seen-Items n xs)) ∙ h) (λ bs hb is.
-    let b = bounds_sound xs bs hb in (ap (r.Items n) b.0 ∙ ap allocation_reference is, sym (ap (λ (a : Allocation). some a.bounds) is) ∙ b.1)))
+    let b = bounds_sound xs bs hb in
+    (ap (r.Items n) b.0 ∙ ap allocation_reference is, sym (ap (λ (a : Allocation). some a.bounds) is) ∙ b.1)))
     (λ n xs b c a h. let q = sym (ap allocation_in (seen-Substring n xs b c)) ∙ h in absurd (cc))
 
 pub allocation_sound : (f : Field) (a : Allocation) → allocation_of f ≡ Some a → (f ≡ allocation_field a) × (some a.bounds ≡ true)

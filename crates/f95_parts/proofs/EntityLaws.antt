@@ -1,5 +1,6 @@
 -- Entities: spelled as the fields that they are taken from, and taken again.
-use Rattle.std.proofs.Common.{◌≡◌, ℕ, Bool, true, false, ◌&&◌, List, [], ◌∷◌, ◌++◌, map, Option, Some, None, sym, ◌∙◌, ap, refl, append_assoc, append-nil}
+use Rattle.std.proofs.Common.{◌≡◌, ℕ, Bool, true, false, ◌&&◌, List, [], ◌∷◌, ◌++◌, map, Option, Some, None, sym, ◌∙◌, ap, refl}
+use Rattle.std.proofs.Common.{append_assoc, append-nil}
 use Rattle.std.specs.Prelude.{option_map, option_and_then}
 use Rattle.std.proofs.Math.Bool.{and-true}
 use Rattle.f95_tree.specs.declared.expression.Expression.{Expression}
@@ -15,7 +16,8 @@ use Rattle.f95_tree.specs.Spelling.{punctuated, reference, value}
 use Rattle.f95_tree.specs.Grades.{Grade, all, some, well_reference, well_value}
 use Rattle.f95_tree.specs.Forms.{Word, maybe_dims, entity_text}
 use Rattle.f95_tree.specs.WellFormed.{well_dim, maybe_well_dims, maybe_well_expression, well_entity}
-use Rattle.f95_tree.proofs.Nodes.{expression-Reference, reference-Whole, reference-Items, value-One, grade-Reference, well_reference-Whole, well_reference-Items, well_value-One}
+use Rattle.f95_tree.proofs.Nodes.{expression-Reference, reference-Whole, reference-Items, value-One, grade-Reference}
+use Rattle.f95_tree.proofs.Nodes.{well_reference-Whole, well_reference-Items, well_value-One}
 use Rattle.f95_tree.proofs.Views.{seen-Whole, seen-Items, seen-Substring}
 use Rattle.f95_tree.proofs.Induction.{reference_cases}
 use Rattle.f95_expressions.specs.declared.pending.Field.{Field}
@@ -26,7 +28,8 @@ use Rattle.f95_expressions.specs.Machine.{field}
 use Rattle.f95_expressions.proofs.Lists.{both, joined}
 use Rattle.f95_expressions.proofs.Read.{mapped, chained}
 use Rattle.f95_parts.specs.Parts.{as_reference, spread_expression, dims_of, entity, entity_in, entity_named, entity_from, entity_of}
-use Rattle.f95_parts.proofs.PartLaws.{lone_again, as_reference_sound, as_reference_again, reference_field, reference_text, reference_well, spread_sound}
+use Rattle.f95_parts.proofs.PartLaws.{lone_again, as_reference_sound, as_reference_again, reference_field, reference_text}
+use Rattle.f95_parts.proofs.PartLaws.{reference_well, spread_sound}
 use Rattle.f95_parts.proofs.BoundLaws.{dim_item, dims_sound, dims_again, dims_spelled, dims_well}
 
 abbrev pub entity_reference : Word → Option (List Dim) → Reference

@@ -1,5 +1,6 @@
 -- Entities, arguments, ranges and indices: spelled as the fields that they are taken from, and taken again.
-use Rattle.std.proofs.Common.{◌≡◌, ℕ, Bool, true, false, ◌&&◌, List, [], ◌∷◌, ◌++◌, map, Option, Some, None, sym, ◌∙◌, ap, refl, append_assoc, append-nil}
+use Rattle.std.proofs.Common.{◌≡◌, ℕ, Bool, true, false, ◌&&◌, List, [], ◌∷◌, ◌++◌, map, Option, Some, None, sym, ◌∙◌, ap, refl}
+use Rattle.std.proofs.Common.{append_assoc, append-nil}
 use Rattle.std.specs.Prelude.{option_map, option_and_then, if◌then◌else◌}
 use Rattle.std.proofs.Math.Bool.{and-true}
 use Rattle.f95_tree.specs.declared.expression.Expression.{Expression}
@@ -20,7 +21,8 @@ use Rattle.f95_tree.specs.Spelling.{Text, punctuated, commas, in_brackets, maybe
 use Rattle.f95_tree.specs.Grades.{Grade, all, some, maybe_well, grade, well, well_item, well_reference, well_value}
 use Rattle.f95_tree.specs.Forms.{Word, argument_text, range_text, index_text}
 use Rattle.f95_tree.specs.WellFormed.{well_range, well_index}
-use Rattle.f95_tree.proofs.Nodes.{expression-Reference, reference-Whole, value-One, well_value-One, grade-Reference, well_reference-Whole}
+use Rattle.f95_tree.proofs.Nodes.{expression-Reference, reference-Whole, value-One, well_value-One, grade-Reference}
+use Rattle.f95_tree.proofs.Nodes.{well_reference-Whole}
 use Rattle.f95_expressions.specs.declared.pending.Field.{Field}
 use Rattle.f95_expressions.specs.declared.pending.Spread.{Spread}
 use Rattle.f95_expressions.specs.declared.pending.Spread.TheVariants as spread
@@ -28,7 +30,8 @@ use Rattle.f95_expressions.specs.Fields.{field_text, well_field}
 use Rattle.f95_expressions.specs.Machine.{lone, whole, field}
 use Rattle.f95_expressions.proofs.Lists.{both, joined}
 use Rattle.f95_expressions.proofs.Read.{mapped, chained, lone_sound, whole_sound}
-use Rattle.f95_parts.specs.Parts.{spread_expression, keyword_of, argument, argument_of, range_from, range_of, range_of_bounds, index, index_of_bounds, index_from, index_of}
+use Rattle.f95_parts.specs.Parts.{spread_expression, keyword_of, argument, argument_of, range_from, range_of, range_of_bounds}
+use Rattle.f95_parts.specs.Parts.{index, index_of_bounds, index_from, index_of}
 use Rattle.f95_parts.proofs.PartLaws.{lone_again, spread_sound, whole_again}
 
 -- ---- arguments
@@ -47,18 +50,21 @@ keyword_sound (Some x) n h = mapped Some (whole x) n h (λ m hm is. ap Some (who
 pub argument_sound : (f : Field) (a : Argument) → argument_of f ≡ Some a → f ≡ argument_field a
 argument_sound f a h = chained (λ n. option_map (argument n) (spread_expression f.spread)) (keyword_of f.left) a h (λ n hn h2.
     mapped (argument n) (spread_expression f.spread) a h2 (λ x hx is.
-    ap (λ l. field l f.spread) (keyword_sound f.left n hn) ∙ ap (λ s. field (keyword_left n) s) (spread_sound f.spread x hx) ∙ ap argument_field is))
+    ap (λ l. field l f.spread) (keyword_sound f.left n hn) ∙ ap (λ s. field (keyword_left n) s) (spread_sound f.spread x hx)
+    ∙ ap argument_field is))
 
 keyword_again : (n : Option Word) → keyword_of (keyword_left n) ≡ Some n
 keyword_again None = refl
 keyword_again (Some n) = ap (option_map Some) (whole_again n)
 
 pub argument_again : (a : Argument) → argument_of (argument_field a) ≡ Some a
-argument_again a = ap (option_and_then (λ n. option_map (argument n) (lone (v.One a.value)))) (keyword_again a.keyword) ∙ ap (option_map (argument a.keyword)) (lone_again a.value)
+argument_again a = ap (option_and_then (λ n. option_map (argument n) (lone (v.One a.value)))) (keyword_again a.keyword)
+    ∙ ap (option_map (argument a.keyword)) (lone_again a.value)
 
 argument_spelled_by : (n : Option Word) (x : Expression) → field_text (argument_field (argument n x)) ≡ argument_text (argument n x)
 argument_spelled_by None x = value-One x
-argument_spelled_by (Some n) x = ap (λ t. (t ++ punctuated mark.Assign []) ++ value (v.One x)) (expression-Reference (r.Whole n) ∙ reference-Whole n)
+argument_spelled_by (Some n) x = ap (λ t. (t ++ punctuated mark.Assign []) ++ value (v.One x))
+    (expression-Reference (r.Whole n) ∙ reference-Whole n)
     ∙ ap (λ t. terminal.Name n ∷ punctuated mark.Assign t) (value-One x)
 
 pub argument_spelled : (a : Argument) → field_text (argument_field a) ≡ argument_text a
@@ -66,7 +72,8 @@ argument_spelled a = argument_spelled_by a.keyword a.value
 
 argument_well_by : (n : Option Word) (x : Expression) → well_field (argument_field (argument n x)) ≡ well x
 argument_well_by None x = well_value-One x
-argument_well_by (Some n) x = ap (λ b. b && well_value (v.One x)) (ap (λ (g : Grade). g.1) (grade-Reference (r.Whole n)) ∙ well_reference-Whole n) ∙ well_value-One x
+argument_well_by (Some n) x = ap (λ b. b && well_value (v.One x))
+    (ap (λ (g : Grade). g.1) (grade-Reference (r.Whole n)) ∙ well_reference-Whole n) ∙ well_value-One x
 
 pub argument_well : (a : Argument) → well_field (argument_field a) ≡ well a.value
 argument_well a = argument_well_by a.keyword a.value
@@ -79,7 +86,8 @@ range_field (range.From a) = field None (spread.Triplet (Some a) None None)
 range_field (range.UpTo b) = field None (spread.Triplet None (Some b) None)
 range_field (range.Between a b) = field None (spread.Triplet (Some a) (Some b) None)
 
-bounds_range : (a b c : Option Expression) (x : CaseRange) → range_of_bounds a b c ≡ Some x → field None (spread.Triplet a b c) ≡ range_field x
+bounds_range : (a b c : Option Expression) (x : CaseRange) → range_of_bounds a b c ≡ Some x → field None (spread.Triplet a b c)
+    ≡ range_field x
 bounds_range None None c x h = absurd (cc)
 bounds_range None (Some b) None x h = let q : range.UpTo b ≡ x = cc in ap range_field q
 bounds_range None (Some b) (Some c) x h = absurd (cc)
@@ -88,9 +96,11 @@ bounds_range (Some a) None (Some c) x h = absurd (cc)
 bounds_range (Some a) (Some b) None x h = let q : range.Between a b ≡ x = cc in ap range_field q
 bounds_range (Some a) (Some b) (Some c) x h = absurd (cc)
 
-range_sound_from : (left : Option Expression) (s : Spread) (x : CaseRange) → range_from left s ≡ Some x → field left s ≡ range_field x
+range_sound_from : (left : Option Expression) (s : Spread) (x : CaseRange) → range_from left s ≡ Some x →
+    field left s ≡ range_field x
 range_sound_from None spread.Empty x h = absurd (cc)
-range_sound_from None (spread.One w) x h = mapped range.One (lone w) x h (λ y hy is. ap (λ w. field None (spread.One w)) (lone_sound w y hy) ∙ ap range_field is)
+range_sound_from None (spread.One w) x h = mapped range.One (lone w) x h
+    (λ y hy is. ap (λ w. field None (spread.One w)) (lone_sound w y hy) ∙ ap range_field is)
 range_sound_from None (spread.Triplet a b c) x h = bounds_range a b c x h
 range_sound_from (Some l) s x h = absurd (cc)
 
@@ -140,7 +150,10 @@ pub index_again : (i : Index) → index_of (index_field i) ≡ Some i
 index_again i = ap (option_and_then (λ n. index_of_bounds n (Some i.lower) (Some i.upper) i.stride)) (whole_again i.name)
 
 pub index_spelled : (i : Index) → field_text (index_field i) ≡ index_text i
-index_spelled i = ap (λ t. (t ++ punctuated mark.Assign []) ++ (expression i.lower ++ punctuated mark.Colon (expression i.upper ++ maybe_behind mark.Colon (option_map expression i.stride))))
+index_spelled i =
+    ap (λ t. (t ++ punctuated mark.Assign [])
+    ++ (expression i.lower
+    ++ punctuated mark.Colon (expression i.upper ++ maybe_behind mark.Colon (option_map expression i.stride))))
     (expression-Reference (r.Whole i.name) ∙ reference-Whole i.name)
 
 pub index_well : (i : Index) → well_field (index_field i) ≡ well_index i

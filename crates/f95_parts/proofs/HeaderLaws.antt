@@ -1,5 +1,6 @@
 -- Headers of FORALL: spelled as the fields that they are taken from, and taken again.
-use Rattle.std.proofs.Common.{◌≡◌, Bool, true, false, ◌&&◌, List, [], ◌∷◌, ◌++◌, map, Option, Some, None, sym, ◌∙◌, ap, refl, append_assoc, append-nil}
+use Rattle.std.proofs.Common.{◌≡◌, Bool, true, false, ◌&&◌, List, [], ◌∷◌, ◌++◌, map, Option, Some, None, sym, ◌∙◌, ap, refl}
+use Rattle.std.proofs.Common.{append_assoc, append-nil}
 use Rattle.std.specs.Prelude.{option_map, option_and_then, if◌then◌else◌}
 use Rattle.f95_tree.specs.declared.expression.Expression.{Expression}
 use Rattle.f95_tree.specs.declared.action.Header.{Header}
@@ -18,7 +19,8 @@ use Rattle.f95_expressions.proofs.Read.{mapped, chained, expression_sound}
 use Rattle.f95_parts.specs.Parts.{index_of, header, indices_of, header_of}
 use Rattle.f95_parts.proofs.PartLaws.{expression_again, expression_text, expression_well}
 use Rattle.f95_parts.proofs.FieldLaws.{index_field}
-use Rattle.f95_parts.proofs.ListLaws.{collected_text, collected_well, collected_some, collected_fields, fields_spelled, fields_well, fields_some}
+use Rattle.f95_parts.proofs.ListLaws.{collected_text, collected_well, collected_some, collected_fields, fields_spelled, fields_well}
+use Rattle.f95_parts.proofs.ListLaws.{fields_some}
 use Rattle.f95_parts.proofs.Instances.{indices}
 
 -- what stands between the brackets

@@ -3,6 +3,7 @@ pub mod EntityLaws
 pub mod FieldLaws
 pub mod HeaderLaws
 pub mod Instances
+pub mod Lengths
 pub mod ListLaws
 pub mod PartLaws
 pub mod ViewLaws

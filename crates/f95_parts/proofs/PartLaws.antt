@@ -1,5 +1,6 @@
 -- What fields are taken for is spelled as they are, and is taken again.
-use Rattle.std.proofs.Common.{◌≡◌, ℕ, Bool, true, false, ◌&&◌, List, [], ◌∷◌, ◌++◌, map, Option, Some, None, sym, ◌∙◌, ap, subst, refl, append_assoc, append-nil}
+use Rattle.std.proofs.Common.{◌≡◌, ℕ, Bool, true, false, ◌&&◌, List, [], ◌∷◌, ◌++◌, map, Option, Some, None, sym, ◌∙◌, ap, subst}
+use Rattle.std.proofs.Common.{refl, append_assoc, append-nil}
 use Rattle.std.specs.Prelude.{option_map, option_and_then, if◌then◌else◌}
 use Rattle.f95_tree.specs.declared.expression.Expression.{Expression, out-Expression}
 use Rattle.f95_tree.specs.declared.expression.Expression.TheVariants as e
@@ -23,18 +24,23 @@ use Rattle.f95_tree.specs.Spelling.{Text, punctuated, commas, expression, item, 
 use Rattle.f95_tree.specs.Grades.{Grade, all, some, maybe_well, grade, well, well_item, well_reference, well_value}
 use Rattle.f95_tree.specs.Forms.{Word, named, dim_text, bound_text, argument_text, range_text, assignment_text}
 use Rattle.f95_tree.specs.WellFormed.{well_dim, well_bound, well_range, well_assignment}
-use Rattle.f95_tree.proofs.Nodes.{expression-Reference, reference-Whole, value-One, well_value-One, grade-Reference, well_reference-Whole, item-Plain, item-Triplet, well_item-Plain, well_item-Triplet}
-use Rattle.f95_tree.proofs.Views.{seen-Literal, seen-Reference, seen-Bracketed, seen-Constructor, seen-Signed, seen-Binary, seen-Plain, seen-Keyword, seen-Triplet, seen-Whole, seen-Items, seen-Substring, seen-One}
+use Rattle.f95_tree.proofs.Nodes.{expression-Reference, reference-Whole, value-One, well_value-One, grade-Reference}
+use Rattle.f95_tree.proofs.Nodes.{well_reference-Whole, item-Plain, item-Triplet, well_item-Plain, well_item-Triplet}
+use Rattle.f95_tree.proofs.Views.{seen-Literal, seen-Reference, seen-Bracketed, seen-Constructor, seen-Signed, seen-Binary}
+use Rattle.f95_tree.proofs.Views.{seen-Plain, seen-Keyword, seen-Triplet, seen-Whole, seen-Items, seen-Substring, seen-One}
 use Rattle.f95_tree.proofs.Induction.{Expressions, expression_cases, item_cases}
 use Rattle.f95_expressions.specs.declared.pending.Field.{Field}
 use Rattle.f95_expressions.specs.declared.pending.Spread.{Spread}
 use Rattle.f95_expressions.specs.declared.pending.Spread.TheVariants as spread
 use Rattle.f95_expressions.specs.Fields.{field_text, spread_text, left_text, well_field, well_spread}
-use Rattle.f95_expressions.specs.Machine.{lone, whole, name_in, name_in_reference, expression_in, field, collected, within, expression_of, has_left}
+use Rattle.f95_expressions.specs.Machine.{lone, whole, name_in, name_in_reference, expression_in, field, collected, within}
+use Rattle.f95_expressions.specs.Machine.{expression_of, has_left}
 use Rattle.f95_expressions.proofs.Lists.{both, joined, onto}
 use Rattle.f95_expressions.proofs.Fields.{value_field, expression_field}
 use Rattle.f95_expressions.proofs.Read.{mapped, chained, lone_sound, whole_sound, value_sound, expression_sound}
-use Rattle.f95_parts.specs.Parts.{as_reference, reference_in, reference_of, name_of, spread_expression, keyword_of, argument, argument_of, assignment, assignment_from, assignment_of, dim_of, dim_in, dim_of_bounds, bound_of, bound_in, bound_of_bounds, range_of, range_from, range_of_bounds}
+use Rattle.f95_parts.specs.Parts.{as_reference, reference_in, reference_of, name_of, spread_expression, keyword_of, argument}
+use Rattle.f95_parts.specs.Parts.{argument_of, assignment, assignment_from, assignment_of, dim_of, dim_in, dim_of_bounds, bound_of}
+use Rattle.f95_parts.specs.Parts.{bound_in, bound_of_bounds, range_of, range_from, range_of_bounds}
 
 -- ---- expressions, references and names
 
@@ -70,7 +76,8 @@ abbrev pub reference_field : Reference → Field
 reference_field x = expression_field (e.Reference x)
 
 pub reference_sound : (f : Field) (x : Reference) → reference_of f ≡ Some x → f ≡ reference_field x
-reference_sound f x h = chained as_reference (expression_of f) x h (λ y hy hx. expression_sound f y hy ∙ ap expression_field (as_reference_sound y x hx))
+reference_sound f x h = chained as_reference (expression_of f) x h
+    (λ y hy hx. expression_sound f y hy ∙ ap expression_field (as_reference_sound y x hx))
 
 pub reference_again : (x : Reference) → reference_of (reference_field x) ≡ Some x
 reference_again x = ap (option_and_then as_reference) (expression_again (e.Reference x)) ∙ as_reference_again x
@@ -88,7 +95,8 @@ pub whole_again : (n : Word) → whole (e.Reference (r.Whole n)) ≡ Some n
 whole_again n = ap name_in (seen-Reference (r.Whole n)) ∙ ap name_in_reference (seen-Whole n)
 
 pub name_sound : (f : Field) (n : Word) → name_of f ≡ Some n → f ≡ name_field n
-name_sound f n h = chained whole (expression_of f) n h (λ y hy hn. expression_sound f y hy ∙ ap expression_field (whole_sound y n hn))
+name_sound f n h =
+    chained whole (expression_of f) n h (λ y hy hn. expression_sound f y hy ∙ ap expression_field (whole_sound y n hn))
 
 pub name_again : (n : Word) → name_of (name_field n) ≡ Some n
 name_again n = ap (option_and_then whole) (expression_again (e.Reference (r.Whole n))) ∙ whole_again n
@@ -109,21 +117,27 @@ spread_sound (spread.Triplet a b c) x h = absurd (cc)
 abbrev pub assignment_field : Assignment → Field
 assignment_field a = field (Some (e.Reference a.to)) (spread.One (v.One a.value))
 
-assignment_sound_from : (left : Option Expression) (s : Spread) (a : Assignment) → assignment_from left s ≡ Some a → field left s ≡ assignment_field a
+assignment_sound_from : (left : Option Expression) (s : Spread) (a : Assignment) → assignment_from left s ≡ Some a →
+    field left s ≡ assignment_field a
 assignment_sound_from None s a h = absurd (cc)
-assignment_sound_from (Some left) s a h = chained (λ to. option_map (assignment to) (spread_expression s)) (as_reference left) a h (λ to hto h2.
+assignment_sound_from (Some left) s a h = chained (λ to. option_map (assignment to) (spread_expression s)) (as_reference left) a h
+    (λ to hto h2.
     mapped (assignment to) (spread_expression s) a h2 (λ x hx is.
-    ap (λ l. field (Some l) s) (as_reference_sound left to hto) ∙ ap (λ s. field (Some (e.Reference to)) s) (spread_sound s x hx) ∙ ap assignment_field is))
+    ap (λ l. field (Some l) s) (as_reference_sound left to hto) ∙ ap (λ s. field (Some (e.Reference to)) s) (spread_sound s x hx)
+    ∙ ap assignment_field is))
 
 pub assignment_sound : (f : Field) (a : Assignment) → assignment_of f ≡ Some a → f ≡ assignment_field a
 assignment_sound f a h = assignment_sound_from f.left f.spread a h
 
 pub assignment_again : (a : Assignment) → assignment_of (assignment_field a) ≡ Some a
-assignment_again a = ap (option_and_then (λ to. option_map (assignment to) (lone (v.One a.value)))) (as_reference_again a.to) ∙ ap (option_map (assignment a.to)) (lone_again a.value)
+assignment_again a = ap (option_and_then (λ to. option_map (assignment to) (lone (v.One a.value)))) (as_reference_again a.to)
+    ∙ ap (option_map (assignment a.to)) (lone_again a.value)
 
 pub assignment_spelled : (a : Assignment) → field_text (assignment_field a) ≡ assignment_text a
 assignment_spelled a = ap (λ t. (t ++ punctuated mark.Assign []) ++ value (v.One a.value)) (expression-Reference a.to)
-    ∙ append_assoc (reference a.to) (punctuated mark.Assign []) (value (v.One a.value)) ∙ ap (λ t. reference a.to ++ punctuated mark.Assign t) (value-One a.value)
+    ∙ append_assoc (reference a.to) (punctuated mark.Assign []) (value (v.One a.value))
+    ∙ ap (λ t. reference a.to ++ punctuated mark.Assign t) (value-One a.value)
 
 pub assignment_well : (a : Assignment) → well_field (assignment_field a) ≡ well_assignment a
-assignment_well a = ap (λ b. b && well_value (v.One a.value)) (ap (λ (g : Grade). g.1) (grade-Reference a.to)) ∙ ap (λ b. well_reference a.to && b) (well_value-One a.value)
+assignment_well a = ap (λ b. b && well_value (v.One a.value)) (ap (λ (g : Grade). g.1) (grade-Reference a.to))
+    ∙ ap (λ b. well_reference a.to && b) (well_value-One a.value)

@@ -1,5 +1,6 @@
 -- What stands first, both ways.
-use Rattle.std.proofs.Common.{◌≡◌, ℕ, Bool, true, false, ◌&&◌, ◌==◌, nat_eq, List, [], ◌∷◌, ◌++◌, Option, Some, None, sym, ◌∙◌, ap, refl}
+use Rattle.std.proofs.Common.{◌≡◌, ℕ, Bool, true, false, ◌&&◌, ◌==◌, nat_eq, List, [], ◌∷◌, ◌++◌, Option, Some, None, sym, ◌∙◌, ap}
+use Rattle.std.proofs.Common.{refl}
 use Rattle.std.specs.Prelude.{option_map, option_and_then, if◌then◌else◌}
 use Rattle.std.proofs.lemmas.Bool.{eqb-true, eq-eqb}
 use Rattle.f95_tree.specs.declared.expression.Literal.{Literal}
@@ -13,7 +14,8 @@ use Rattle.f95_tree.specs.Forms.{Word, maybe_named, star}
 use Rattle.f95_tree.specs.Spelling.{Text, punctuated}
 use Rattle.f95_expressions.proofs.Lists.{both, joined, by_test}
 use Rattle.f95_expressions.proofs.Read.{mapped, chained}
-use Rattle.f95_parts.specs.Views.{is, is_nil, mark_number, is_mark, is_star, behind, behind_star, as_name, as_keyword, as_literal, behind_name, behind_keyword, behind_literal, behind_word, at_end, nothing_more, name_at_end}
+use Rattle.f95_parts.specs.Views.{is, is_nil, mark_number, is_mark, is_star, behind, behind_star, as_name, as_keyword, as_literal}
+use Rattle.f95_parts.specs.Views.{behind_name, behind_keyword, behind_literal, behind_word, at_end, nothing_more, name_at_end}
 
 pub nil : (ts : Text) → is_nil ts ≡ true → ts ≡ []
 nil [] h = refl
@@ -51,7 +53,8 @@ mark_is p t h = absurd (cc)
 
 pub behind_sound : (p : Punctuation) (ts rest : Text) → behind p ts ≡ Some rest → ts ≡ punctuated p rest
 behind_sound p [] rest h = absurd (cc)
-behind_sound p (t ∷ ts) rest h = by_test (λ b. (if b then Some ts else None) ≡ Some rest → b ≡ is_mark p t → t ∷ ts ≡ punctuated p rest) (is_mark p t)
+behind_sound p (t ∷ ts) rest h =
+    by_test (λ b. (if b then Some ts else None) ≡ Some rest → b ≡ is_mark p t → t ∷ ts ≡ punctuated p rest) (is_mark p t)
     (λ e h _. let q : ts ≡ rest = cc in ap (λ x. x ∷ ts) (mark_is p t e) ∙ ap (punctuated p) q) (λ _ h _. absurd (cc)) h refl
 
 pub behind_again : (p : Punctuation) (rest : Text) → behind p (punctuated p rest) ≡ Some rest
@@ -103,18 +106,23 @@ keyword_sound (t ∷ ts) p h = mapped (λ k. (k, ts)) (as_keyword t) p h (λ k h
 pub word_sound : (w : Word) (ts rest : Text) → behind_word w ts ≡ Some rest → ts ≡ terminal.Name w ∷ rest
 word_sound w ts rest h = chained (λ p. if is w p.0 then Some p.1 else None) (behind_name ts) rest h (λ p hp hr.
     by_test (λ b. (if b then Some p.1 else None) ≡ Some rest → ts ≡ terminal.Name w ∷ rest) (is w p.0)
-    (λ e h. let q : p.1 ≡ rest = cc in name_sound ts p hp ∙ ap (λ n. terminal.Name n ∷ p.1) (same_word p.0 w e) ∙ ap (λ ts. terminal.Name w ∷ ts) q)
+    (λ e h. let q : p.1 ≡ rest = cc in name_sound ts p hp ∙ ap (λ n. terminal.Name n ∷ p.1) (same_word p.0 w e)
+    ∙ ap (λ ts. terminal.Name w ∷ ts) q)
     (λ _ h. absurd (cc)) hr)
 
 -- what stands at the end
 pub end_sound : {A : Type 0} (p : A × Text) (a : A) → at_end p ≡ Some a → (p.0 ≡ a) × (p.1 ≡ [])
-end_sound p a h = by_test (λ b. (if b then Some p.0 else None) ≡ Some a → (p.0 ≡ a) × (p.1 ≡ [])) (is_nil p.1) (λ e h. (cc, nil p.1 e)) (λ _ h. absurd (cc)) h
+end_sound p a h = by_test (λ b. (if b then Some p.0 else None) ≡ Some a → (p.0 ≡ a) × (p.1 ≡ [])) (is_nil p.1)
+    (λ e h. (cc, nil p.1 e)) (λ _ h. absurd (cc)) h
 
 pub more_sound : {A : Type 0} (a b : A) (ts : Text) → nothing_more a ts ≡ Some b → (a ≡ b) × (ts ≡ [])
-more_sound a b ts h = by_test (λ c. (if c then Some a else None) ≡ Some b → (a ≡ b) × (ts ≡ [])) (is_nil ts) (λ e h. (cc, nil ts e)) (λ _ h. absurd (cc)) h
+more_sound a b ts h = by_test (λ c. (if c then Some a else None) ≡ Some b → (a ≡ b) × (ts ≡ [])) (is_nil ts) (λ e h. (cc, nil ts e))
+    (λ _ h. absurd (cc)) h
 
 pub name_end_sound : (ts : Text) (n : Option Word) → name_at_end ts ≡ Some n → ts ≡ maybe_named n
-name_end_sound ts n h = by_test (λ b. (if b then Some None else option_map Some (option_and_then at_end (behind_name ts))) ≡ Some n → ts ≡ maybe_named n) (is_nil ts)
+name_end_sound ts n h =
+    by_test (λ b. (if b then Some None else option_map Some (option_and_then at_end (behind_name ts))) ≡ Some n →
+    ts ≡ maybe_named n) (is_nil ts)
     (λ e h. let q : None ≡ n = cc in nil ts e ∙ ap maybe_named q)
     (λ _ h. mapped Some (option_and_then at_end (behind_name ts)) n h (λ m hm is.
     chained at_end (behind_name ts) m hm (λ p hp he.

@@ -1,5 +1,6 @@
 -- What the fields in brackets and in rows are taken for.
-use Rattle.std.specs.Prelude.{ℕ, Bool, true, false, nat_eq, List, [], ◌∷◌, ◌++◌, Option, Some, None, option_map, option_and_then, codes, if◌then◌else◌}
+use Rattle.std.specs.Prelude.{ℕ, Bool, true, false, nat_eq, List, [], ◌∷◌, ◌++◌, Option, Some, None, option_map, option_and_then}
+use Rattle.std.specs.Prelude.{codes, if◌then◌else◌}
 use Rattle.std.specs.Cmp.Lexicographic.{pointwise}
 use Rattle.f95_tree.specs.declared.expression.Expression.{Expression, out-Expression}
 use Rattle.f95_tree.specs.declared.expression.Reference.{Reference, out-Reference}
@@ -120,7 +121,7 @@ entity n dims initial = record { name = n; dims = dims; initial = initial }
 abbrev pub entity_in : Option Expression → ReferenceLayer → Option Entity
 entity_in initial (layer.Whole n) = Some (entity n None initial)
 entity_in initial (layer.Items n xs) = option_map (λ dims. entity n (Some dims) initial) (dims_of xs)
-entity_in initial (layer.Substring _ _ _ _) = None
+entity_in initial (layer.Substring _ _ _) = None
 
 abbrev pub entity_named : Option Expression → Reference → Option Entity
 entity_named initial x = entity_in initial (out-Reference x)
@@ -128,7 +129,8 @@ entity_named initial x = entity_in initial (out-Reference x)
 -- name ( dims ) = e
 abbrev pub entity_from : Option Expression → Spread → Option Entity
 entity_from None s = option_and_then (λ x. option_and_then (entity_named None) (as_reference x)) (spread_expression s)
-entity_from (Some left) s = option_and_then (λ initial. option_and_then (entity_named (Some initial)) (as_reference left)) (spread_expression s)
+entity_from (Some left) s = option_and_then (λ initial. option_and_then (entity_named (Some initial)) (as_reference left))
+    (spread_expression s)
 
 abbrev pub entity_of : Field → Option Entity
 entity_of f = entity_from f.left f.spread
@@ -139,7 +141,7 @@ allocation n bounds = record { name = n; bounds = bounds }
 abbrev pub allocation_in : ReferenceLayer → Option Allocation
 allocation_in (layer.Whole _) = None
 allocation_in (layer.Items n xs) = option_map (allocation n) (bounds_of xs)
-allocation_in (layer.Substring _ _ _ _) = None
+allocation_in (layer.Substring _ _ _) = None
 
 abbrev pub allocation_named : Reference → Option Allocation
 allocation_named x = allocation_in (out-Reference x)
@@ -169,7 +171,8 @@ index_of_bounds n (Some lower) (Some upper) stride = Some (index stride n lower 
 index_of_bounds n _ _ _ = None
 
 abbrev pub index_from : Option Expression → Spread → Option Index
-index_from (Some left) (spread.Triplet lower upper stride) = option_and_then (λ n. index_of_bounds n lower upper stride) (whole left)
+index_from (Some left) (spread.Triplet lower upper stride) =
+    option_and_then (λ n. index_of_bounds n lower upper stride) (whole left)
 index_from _ _ = None
 
 -- name = lower : upper : stride
@@ -186,7 +189,8 @@ indices_of mask (f ∷ fs) = option_map (header mask) (collected index_of [] (f 
 -- the header of a FORALL, the last field first
 abbrev pub header_of : List Field → Option Header
 header_of [] = None
-header_of (f ∷ fs) = if has_left f then indices_of None (f ∷ fs) else option_and_then (λ mask. indices_of (Some mask) fs) (expression_of f)
+header_of (f ∷ fs) = if has_left f then indices_of None (f ∷ fs) else option_and_then (λ mask. indices_of (Some mask) fs)
+    (expression_of f)
 
 abbrev pub assignment : Reference → Expression → Assignment
 assignment to x = record { to = to; value = x }

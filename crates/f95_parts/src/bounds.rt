@@ -3,11 +3,14 @@
 ghost use Rattle.std.specs.Prelude.{◌≡◌, [], ◌∷◌, ◌++◌, length, IfOk, option_map, option_and_then};
 ghost use Rattle.f95_expressions.specs.declared.pending.Field.{Field};
 ghost use Rattle.f95_expressions.specs.Machine.{lone, whole, has_left, expression_of};
-ghost use Rattle.f95_parts.specs.Parts.{filled, picked, dim_of, dims_of, dim_of_bounds, bound_of, bounds_of, bound_of_bounds, entity, entity_named, entity_from, entity_of, allocation_named, allocation_of, range_of_bounds, range_from, range_of, index_of_bounds, index_from, index_of, indices_of, header_of};
+ghost use Rattle.f95_parts.specs.Parts.{filled, picked, dim_of, dims_of, dim_of_bounds, bound_of, bounds_of, bound_of_bounds};
+ghost use Rattle.f95_parts.specs.Parts.{entity, entity_named, entity_from, entity_of, allocation_named, allocation_of};
+ghost use Rattle.f95_parts.specs.Parts.{range_of_bounds, range_from, range_of, index_of_bounds, index_from, index_of, indices_of};
+ghost use Rattle.f95_parts.specs.Parts.{header_of};
 
 use crate::part::{Part, as_reference, collected, reference_of, spread_expression};
-use a95_base::{Bytes, Stack};
-use f95_expressions::{Field, Spread, expression_of, lone, whole};
+use a95_base::{SharedBytes, Stack};
+use f95_expressions::{Field, Spread, boxed, expression_of, lone, whole};
 use f95_tree::{
     Allocation, Bound, CaseRange, Dim, Entity, Expression, Header, Index, Item, Reference,
 };
@@ -21,8 +24,13 @@ fn stacked(alloc: Global, items: Items<Item>) -> Result<Stack<Item>, AllocError>
     let mut items = items;
     let mut stack = Stack::new(alloc);
     'stacking: while let Some(item) = items.pop() {
-        stack.push(item)?;
+        if let Err(error) = stack.push(item) {
+            drop(items);
+            drop(stack);
+            return Err(error);
+        }
     }
+    drop(items);
     Ok(stack)
 }
 
@@ -32,7 +40,10 @@ fn dim_of_bounds(lower: Option<Expression>, upper: Option<Expression>) -> Option
     match lower {
         None => match upper {
             None => Some(Dim::Deferred),
-            Some(_) => None,
+            Some(upper) => {
+                drop(upper);
+                None
+            }
         },
         Some(lower) => match upper {
             None => Some(Dim::Lower(lower)),
@@ -55,10 +66,19 @@ fn dim_of(item: Item) -> Option<Dim>
 {
     match item {
         Item::Plain(upper) => Some(Dim::Upper(upper)),
-        Item::Keyword(..) => None,
+        Item::Keyword(name, value) => {
+            drop(name);
+            drop(value);
+            None
+        }
         Item::Triplet(lower, upper, stride) => match stride {
             None => dim_of_bounds(unboxed(lower), unboxed(upper)),
-            Some(_) => None,
+            Some(stride) => {
+                drop(lower);
+                drop(upper);
+                drop(stride);
+                None
+            }
         },
     }
 }
@@ -77,11 +97,32 @@ pub fn dims_of(alloc: Global, items: Items<Item>) -> Result<Option<Items<Dim>>, 
     let mut dims = Items::new(alloc);
     'picking: while let Some(item) = items.pop() {
         let Some(dim) = dim_of(item) else {
+            drop(items);
+            drop(dims);
             return Ok(None);
         };
-        dims.push(dim)?;
+        if let Err(error) = dims.push(dim) {
+            drop(items);
+            drop(dims);
+            return Err(error);
+        }
     }
+    drop(items);
     Ok(filled(dims))
+}
+
+fn bound_of_bounds(lower: Option<Expression>, upper: Option<Expression>) -> Option<Bound>
+    ensures { result ≡ bound_of_bounds lower upper None }
+{
+    let Some(lower) = lower else {
+        drop(upper);
+        return None;
+    };
+    let Some(upper) = upper else {
+        drop(lower);
+        return None;
+    };
+    Some(Bound::Both(lower, upper))
 }
 
 fn bound_of(item: Item) -> Option<Bound>
@@ -89,10 +130,19 @@ fn bound_of(item: Item) -> Option<Bound>
 {
     match item {
         Item::Plain(upper) => Some(Bound::Upper(upper)),
-        Item::Keyword(..) => None,
+        Item::Keyword(name, value) => {
+            drop(name);
+            drop(value);
+            None
+        }
         Item::Triplet(lower, upper, stride) => match stride {
-            None => Some(Bound::Both(unboxed(lower)?, unboxed(upper)?)),
-            Some(_) => None,
+            None => bound_of_bounds(unboxed(lower), unboxed(upper)),
+            Some(stride) => {
+                drop(lower);
+                drop(upper);
+                drop(stride);
+                None
+            }
         },
     }
 }
@@ -104,10 +154,17 @@ fn bounds_of(alloc: Global, items: Items<Item>) -> Result<Option<Items<Bound>>, 
     let mut bounds = Items::new(alloc);
     'picking: while let Some(item) = items.pop() {
         let Some(bound) = bound_of(item) else {
+            drop(items);
+            drop(bounds);
             return Ok(None);
         };
-        bounds.push(bound)?;
+        if let Err(error) = bounds.push(bound) {
+            drop(items);
+            drop(bounds);
+            return Err(error);
+        }
     }
+    drop(items);
     Ok(filled(bounds))
 }
 
@@ -124,15 +181,28 @@ fn entity_named(
             dims: None,
             initial,
         })),
-        Reference::Items(name, items) => match dims_of(alloc, items)? {
-            None => Ok(None),
-            Some(dims) => Ok(Some(Entity {
+        Reference::Items(name, items) => match dims_of(alloc, items.into_inner()) {
+            Ok(Some(dims)) => Ok(Some(Entity {
                 name,
                 dims: Some(dims),
                 initial,
             })),
+            Ok(None) => {
+                drop(name);
+                drop(initial);
+                Ok(None)
+            }
+            Err(error) => {
+                drop(name);
+                drop(initial);
+                Err(error)
+            }
         },
-        Reference::Substring(..) => Ok(None),
+        other => {
+            drop(other);
+            drop(initial);
+            Ok(None)
+        }
     }
 }
 
@@ -157,10 +227,14 @@ fn initial_entity(
     ensures { IfOk result (λ entity. entity ≡ entity_from (Some left) spread) }
 {
     let Some(initial) = spread_expression(spread) else {
+        drop(left);
         return Ok(None);
     };
     match as_reference(left) {
-        None => Ok(None),
+        None => {
+            drop(initial);
+            Ok(None)
+        }
         Some(reference) => entity_named(alloc, Some(initial), reference),
     }
 }
@@ -183,12 +257,21 @@ fn allocation_named(alloc: Global, reference: Reference) -> Result<Option<Alloca
     ensures { IfOk result (λ allocation. allocation ≡ allocation_named reference) }
 {
     match reference {
-        Reference::Whole(_) => Ok(None),
-        Reference::Items(name, items) => match bounds_of(alloc, items)? {
-            None => Ok(None),
-            Some(bounds) => Ok(Some(Allocation { name, bounds })),
+        Reference::Items(name, items) => match bounds_of(alloc, items.into_inner()) {
+            Ok(Some(bounds)) => Ok(Some(Allocation { name, bounds })),
+            Ok(None) => {
+                drop(name);
+                Ok(None)
+            }
+            Err(error) => {
+                drop(name);
+                Err(error)
+            }
         },
-        Reference::Substring(..) => Ok(None),
+        other => {
+            drop(other);
+            Ok(None)
+        }
     }
 }
 
@@ -228,7 +311,12 @@ fn range_in(spread: Spread) -> Option<CaseRange>
         Spread::One(value) => Some(CaseRange::One(lone(value)?)),
         Spread::Triplet(lower, upper, stride) => match stride {
             None => range_of_bounds(lower, upper),
-            Some(_) => None,
+            Some(stride) => {
+                drop(lower);
+                drop(upper);
+                drop(stride);
+                None
+            }
         },
     }
 }
@@ -239,7 +327,11 @@ fn range_of(field: Field) -> Option<CaseRange>
     let Field { left, spread } = field;
     match left {
         None => range_in(spread),
-        Some(_) => None,
+        Some(left) => {
+            drop(left);
+            drop(spread);
+            None
+        }
     }
 }
 
@@ -255,15 +347,25 @@ impl Part for CaseRange {
 }
 
 fn index_named(
-    name: Bytes,
+    name: SharedBytes,
     lower: Option<Expression>,
     upper: Option<Expression>,
     stride: Option<Expression>,
 ) -> Option<Index>
     ensures { result ≡ index_of_bounds name lower upper stride }
 {
-    let lower = lower?;
-    let upper = upper?;
+    let Some(lower) = lower else {
+        drop(name);
+        drop(upper);
+        drop(stride);
+        return None;
+    };
+    let Some(upper) = upper else {
+        drop(name);
+        drop(lower);
+        drop(stride);
+        return None;
+    };
     Some(Index {
         name,
         lower,
@@ -276,9 +378,24 @@ fn index_from(left: Expression, spread: Spread) -> Option<Index>
     ensures { result ≡ index_from (Some left) spread }
 {
     match spread {
-        Spread::Empty => None,
-        Spread::One(_) => None,
-        Spread::Triplet(lower, upper, stride) => index_named(whole(left)?, lower, upper, stride),
+        Spread::Empty => {
+            drop(left);
+            None
+        }
+        Spread::One(value) => {
+            drop(left);
+            drop(value);
+            None
+        }
+        Spread::Triplet(lower, upper, stride) => {
+            let Some(name) = whole(left) else {
+                drop(lower);
+                drop(upper);
+                drop(stride);
+                return None;
+            };
+            index_named(name, lower, upper, stride)
+        }
     }
 }
 
@@ -287,7 +404,10 @@ fn index_of(field: Field) -> Option<Index>
 {
     let Field { left, spread } = field;
     match left {
-        None => None,
+        None => {
+            drop(spread);
+            None
+        }
         Some(left) => index_from(left, spread),
     }
 }
@@ -311,11 +431,27 @@ fn indices_of(
     ensures { IfOk result (λ header. header ≡ indices_of mask fields) }
 {
     if fields.top().is_none() {
+        drop(mask);
+        drop(fields);
         return Ok(None);
     }
-    match collected(alloc, fields)? {
-        None => Ok(None),
-        Some(indices) => Ok(Some(Header { indices, mask })),
+    let mask = match boxed(alloc, mask) {
+        Ok(mask) => mask,
+        Err(error) => {
+            drop(fields);
+            return Err(error);
+        }
+    };
+    match collected(alloc, fields) {
+        Ok(Some(indices)) => Ok(Some(Header { indices, mask })),
+        Ok(None) => {
+            drop(mask);
+            Ok(None)
+        }
+        Err(error) => {
+            drop(mask);
+            Err(error)
+        }
     }
 }
 
@@ -325,14 +461,23 @@ pub fn header_of(alloc: Global, fields: Stack<Field>) -> Result<Option<Header>, 
 {
     let mut fields = fields;
     let Some(last) = fields.pop() else {
+        drop(fields);
         return Ok(None);
     };
     if last.left.is_some() {
-        fields.push(last)?;
-        return indices_of(alloc, None, fields);
+        return match fields.push(last) {
+            Ok(()) => indices_of(alloc, None, fields),
+            Err(error) => {
+                drop(fields);
+                Err(error)
+            }
+        };
     }
     match expression_of(last) {
-        None => Ok(None),
+        None => {
+            drop(fields);
+            Ok(None)
+        }
         Some(mask) => indices_of(alloc, Some(mask), fields),
     }
 }

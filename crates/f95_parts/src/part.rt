@@ -3,9 +3,12 @@
 ghost use Rattle.std.specs.Prelude.{◌≡◌, [], ◌∷◌, ◌++◌, IfOk, Option, option_map, option_and_then};
 ghost use Rattle.f95_expressions.specs.declared.pending.Field.{Field};
 ghost use Rattle.f95_expressions.specs.Machine.{collected, lone, whole, expression_of, items_of};
-ghost use Rattle.f95_parts.specs.Parts.{as_reference, reference_of, name_of, spread_expression, keyword_of, argument_of, filled, picked, dim_of, dims_of, dim_of_bounds, bound_of, bounds_of, bound_of_bounds, entity_named, entity_from, entity_of, allocation_named, allocation_of, range_of_bounds, range_from, range_of, index_of_bounds, index_from, index_of, assignment_from, assignment_of};
+ghost use Rattle.f95_parts.specs.Parts.{as_reference, reference_of, name_of, spread_expression, keyword_of, argument_of, filled};
+ghost use Rattle.f95_parts.specs.Parts.{picked, dim_of, dims_of, dim_of_bounds, bound_of, bounds_of, bound_of_bounds, entity_named};
+ghost use Rattle.f95_parts.specs.Parts.{entity_from, entity_of, allocation_named, allocation_of, range_of_bounds, range_from};
+ghost use Rattle.f95_parts.specs.Parts.{range_of, index_of_bounds, index_from, index_of, assignment_from, assignment_of};
 
-use a95_base::{Bytes, Stack};
+use a95_base::{SharedBytes, Stack};
 use f95_expressions::{Field, Spread, expression_of, lone, whole};
 use f95_tree::{
     Allocation, Argument, Assignment, Bound, CaseRange, Dim, Entity, Expression, Index, Item,
@@ -32,11 +35,26 @@ pub fn collected<P: Part>(
     let mut fields = fields;
     let mut parts = Stack::new(alloc);
     'collecting: while let Some(field) = fields.pop() {
-        let Some(part) = P::take(alloc, field)? else {
-            return Ok(None);
+        let part = match P::take(alloc, field) {
+            Ok(Some(part)) => part,
+            Ok(None) => {
+                drop(fields);
+                drop(parts);
+                return Ok(None);
+            }
+            Err(error) => {
+                drop(fields);
+                drop(parts);
+                return Err(error);
+            }
         };
-        parts.push(part)?;
+        if let Err(error) = parts.push(part) {
+            drop(fields);
+            drop(parts);
+            return Err(error);
+        }
     }
+    drop(fields);
     Ok(Some(parts.into_items()))
 }
 
@@ -57,7 +75,10 @@ pub fn as_reference(expression: Expression) -> Option<Reference>
 {
     match expression {
         Expression::Reference(reference) => Some(reference),
-        _ => None,
+        other => {
+            drop(other);
+            None
+        }
     }
 }
 
@@ -78,18 +99,18 @@ impl Part for Reference {
     }
 }
 
-impl Part for Bytes {
+impl Part for SharedBytes {
     ghost use Rattle.f95_parts.specs.Parts.{name_of};
 
     ghost taken = { name_of };
 
-    fn take(alloc: Global, field: Field) -> Result<Option<Bytes>, AllocError> {
+    fn take(alloc: Global, field: Field) -> Result<Option<SharedBytes>, AllocError> {
         let _ = alloc;
         Ok(name_of(field))
     }
 }
 
-fn name_of(field: Field) -> Option<Bytes>
+fn name_of(field: Field) -> Option<SharedBytes>
     ensures { result ≡ name_of field }
 {
     whole(expression_of(field)?)
@@ -102,11 +123,16 @@ pub fn spread_expression(spread: Spread) -> Option<Expression>
     match spread {
         Spread::Empty => None,
         Spread::One(value) => lone(value),
-        Spread::Triplet(..) => None,
+        Spread::Triplet(lower, upper, stride) => {
+            drop(lower);
+            drop(upper);
+            drop(stride);
+            None
+        }
     }
 }
 
-fn keyword_of(left: Option<Expression>) -> Option<Option<Bytes>>
+fn keyword_of(left: Option<Expression>) -> Option<Option<SharedBytes>>
     ensures { result ≡ keyword_of left }
 {
     match left {
@@ -122,8 +148,14 @@ fn argument_of(field: Field) -> Option<Argument>
     ensures { result ≡ argument_of field }
 {
     let Field { left, spread } = field;
-    let keyword = keyword_of(left)?;
-    let value = spread_expression(spread)?;
+    let Some(keyword) = keyword_of(left) else {
+        drop(spread);
+        return None;
+    };
+    let Some(value) = spread_expression(spread) else {
+        drop(keyword);
+        return None;
+    };
     Some(Argument { keyword, value })
 }
 
@@ -141,8 +173,14 @@ impl Part for Argument {
 fn assignment_from(left: Expression, spread: Spread) -> Option<Assignment>
     ensures { result ≡ assignment_from (Some left) spread }
 {
-    let to = as_reference(left)?;
-    let value = spread_expression(spread)?;
+    let Some(to) = as_reference(left) else {
+        drop(spread);
+        return None;
+    };
+    let Some(value) = spread_expression(spread) else {
+        drop(to);
+        return None;
+    };
     Some(Assignment { to, value })
 }
 
@@ -152,7 +190,10 @@ pub fn assignment_of(field: Field) -> Option<Assignment>
 {
     let Field { left, spread } = field;
     match left {
-        None => None,
+        None => {
+            drop(spread);
+            None
+        }
         Some(left) => assignment_from(left, spread),
     }
 }

@@ -1,16 +1,20 @@
 //! What stands first in some terminals, and what stands behind it.
 
 ghost use Rattle.std.specs.Prelude.{◌≡◌, ◌∷◌, [], MatchOption, IfOk, option_map, option_and_then};
-ghost use Rattle.f95_parts.specs.Views.{is, is_nil, mark_number, is_mark, is_star, behind, behind_star, as_name, as_keyword, as_literal, behind_name, behind_keyword, behind_literal, behind_word, name_at_end, at_end};
+ghost use Rattle.f95_parts.specs.Views.{is, is_nil, mark_number, is_mark, is_star, behind, behind_star, as_name, as_keyword};
+ghost use Rattle.f95_parts.specs.Views.{as_literal, behind_name, behind_keyword, behind_literal, behind_word, name_at_end, at_end};
 
-use a95_base::Bytes;
+use a95_base::SharedBytes;
 use f95_tree::{Keyword, Literal, Operator, Punctuation, Terminal};
 use std::alloc::{AllocError, Global};
 
+#[inline]
+#[tactic(auto, using(crate::proofs::Lengths::unlike))]
 pub fn is(name: &[u8], word: &[u8]) -> bool
     ensures { result ≡ is name.now word.now }
 {
-    word == name
+    // a word has mostly another length than a keyword, and that of a keyword is known where this is inlined
+    word.len() == name.len() && word == name
 }
 
 pub fn is_nil(terminals: &[Terminal]) -> bool
@@ -87,7 +91,7 @@ pub fn behind_star(terminals: &[Terminal]) -> Option<&[Terminal]>
 /// A name and what stands behind it.
 #[derive(Clone, Copy)]
 pub struct Named<'a> {
-    pub name: &'a Bytes,
+    pub name: &'a SharedBytes,
     pub rest: &'a [Terminal],
 }
 

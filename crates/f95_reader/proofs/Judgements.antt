@@ -1,5 +1,6 @@
 -- Statements judged one after another.
-use Rattle.std.proofs.Common.{◌≡◌, ℕ, ◌≤◌, ◌<◌, List, [], ◌∷◌, ◌++◌, Option, Some, None, sym, ◌∙◌, ap, subst, refl, inl, inr, ⊎_elim, append_assoc, append-nil, arith, length, drop, ◌+◌}
+use Rattle.std.proofs.Common.{◌≡◌, ℕ, ◌≤◌, ◌<◌, List, [], ◌∷◌, ◌++◌, Option, Some, None, sym, ◌∙◌, ap, subst, refl, inl, inr}
+use Rattle.std.proofs.Common.{⊎_elim, append_assoc, append-nil, arith, length, drop, ◌+◌}
 use Rattle.std.proofs.lemmas.List.{drop_all, drop_more}
 use Rattle.std.proofs.Math.ListN.{get_or}
 use Rattle.a95_base.specs.Lists.{Member}
@@ -41,12 +42,15 @@ one_rule n ts l r k q (too_many_open a) (too_many_open b) = record { line = refl
 pub later : (s : Statement) (ss : List Statement) (line rule : ℕ) → OneBreaks ss line rule → OneBreaks (s ∷ ss) line rule
 later s ss line rule o = record { statement = o.statement; among = inr o.among; broken = o.broken }
 
-form_complete : (s : Statement) (f : Lined) (ss : List Statement) (bs : List Break) (line rule : ℕ) → IsFormOf s f → AreBroken (OneBreaks ss) bs →
+form_complete : (s : Statement) (f : Lined) (ss : List Statement) (bs : List Break) (line rule : ℕ) → IsFormOf s f →
+    AreBroken (OneBreaks ss) bs →
     (t : Statement) → Member (s ∷ ss) t → Broken t.line.0 t.tokens line rule → Member bs (broken_at line rule)
-form_complete s f ss bs line rule h are t (inl e) b = absurd (formed_breaks_none s f line rule h (subst (λ (x : Statement). Broken x.line.0 x.tokens line rule) (sym e) b))
+form_complete s f ss bs line rule h are t (inl e) b = absurd
+    (formed_breaks_none s f line rule h (subst (λ (x : Statement). Broken x.line.0 x.tokens line rule) (sym e) b))
 form_complete s f ss bs line rule h are t (inr m) b = are.complete line rule (record { statement = t; among = m; broken = b })
 
-with_form : (s : Statement) (f : Lined) (ss : List Statement) (fs : List Lined) (bs : List Break) → IsFormOf s f → Judged ss fs bs → Judged (s ∷ ss) (f ∷ fs) bs
+with_form : (s : Statement) (f : Lined) (ss : List Statement) (fs : List Lined) (bs : List Break) → IsFormOf s f → Judged ss fs bs →
+    Judged (s ∷ ss) (f ∷ fs) bs
 with_form s f ss fs bs h j = record {
   broken = record {
     sound = λ b. λ m. later s ss b.line b.rule (j.broken.sound b m);
@@ -55,19 +59,25 @@ with_form s f ss fs bs h j = record {
   formed = λ e. (h, j.formed e);
 }
 
-break_sound : (s : Statement) (ss : List Statement) (bs : List Break) (l r : ℕ) (b : Break) → Broken s.line.0 s.tokens l r → AreBroken (OneBreaks ss) bs →
+break_sound : (s : Statement) (ss : List Statement) (bs : List Break) (l r : ℕ) (b : Break) → Broken s.line.0 s.tokens l r →
+    AreBroken (OneBreaks ss) bs →
     Member (broken_at l r ∷ bs) b → OneBreaks (s ∷ ss) b.line b.rule
-break_sound s ss bs l r b h are (inl e) = subst (λ (x : Break). OneBreaks (s ∷ ss) x.line x.rule) e (record { statement = s; among = inl refl; broken = h })
+break_sound s ss bs l r b h are (inl e) = subst (λ (x : Break). OneBreaks (s ∷ ss) x.line x.rule) e
+    (record { statement = s; among = inl refl; broken = h })
 break_sound s ss bs l r b h are (inr m) = later s ss b.line b.rule (are.sound b m)
 
-break_complete : (s : Statement) (ss : List Statement) (bs : List Break) (l r line rule : ℕ) → Broken s.line.0 s.tokens l r → AreBroken (OneBreaks ss) bs →
+break_complete : (s : Statement) (ss : List Statement) (bs : List Break) (l r line rule : ℕ) → Broken s.line.0 s.tokens l r →
+    AreBroken (OneBreaks ss) bs →
     (t : Statement) → Member (s ∷ ss) t → Broken t.line.0 t.tokens line rule → Member (broken_at l r ∷ bs) (broken_at line rule)
 break_complete s ss bs l r line rule h are t (inl e) b =
-    let same = one_rule s.line.0 s.tokens l r line rule h (subst (λ (x : Statement). Broken x.line.0 x.tokens line rule) (sym e) b) in
+    let same = one_rule s.line.0 s.tokens l r line rule h (subst (λ (x : Statement). Broken x.line.0 x.tokens line rule) (sym e) b)
+    in
     inl (ap (λ n. broken_at n r) same.line ∙ ap (broken_at line) same.rule)
-break_complete s ss bs l r line rule h are t (inr m) b = inr (are.complete line rule (record { statement = t; among = m; broken = b }))
+break_complete s ss bs l r line rule h are t (inr m) b = inr
+    (are.complete line rule (record { statement = t; among = m; broken = b }))
 
-with_break : (s : Statement) (ss : List Statement) (fs : List Lined) (bs : List Break) (l r : ℕ) → Broken s.line.0 s.tokens l r → Judged ss fs bs →
+with_break : (s : Statement) (ss : List Statement) (fs : List Lined) (bs : List Break) (l r : ℕ) → Broken s.line.0 s.tokens l r →
+    Judged ss fs bs →
     Judged (s ∷ ss) fs (broken_at l r ∷ bs)
 with_break s ss fs bs l r h j = record {
   broken = record {
@@ -82,7 +92,7 @@ with_break s ss fs bs l r h j = record {
 pub goes_on_first : (ss : List Statement) → GoesOn ss ss [] []
 goes_on_first ss = record { on = λ more. λ others. λ j. j }
 
-goes_on_added : (whole : List Statement) (s : Statement) (rest : List Statement) (fs gs : List Lined) (bs cs : List Break) →
+pub goes_on_added : (whole : List Statement) (s : Statement) (rest : List Statement) (fs gs : List Lined) (bs cs : List Break) →
     GoesOn whole (s ∷ rest) fs bs → Adds s fs bs gs cs → GoesOn whole rest gs cs
 goes_on_added whole s rest fs _ bs _ g (form f h) = record {
   on = λ more. λ others. λ j. subst (λ z. Judged whole z (bs ++ others)) (sym (append_assoc fs (f ∷ []) more))
@@ -92,12 +102,6 @@ goes_on_added whole s rest fs _ bs _ g (broken l r h) = record {
   on = λ more. λ others. λ j. subst (λ z. Judged whole (fs ++ more) z) (sym (append_assoc bs (broken_at l r ∷ []) others))
       (g.on more (broken_at l r ∷ others) (with_break s rest more others l r h j));
 }
-
-pub goes_on_at : (whole : List Statement) (i : ℕ) (s : Statement) (fs gs : List Lined) (bs cs : List Break) → i < length whole → s ≡ get_or whole i s →
-    GoesOn whole (drop i whole) fs bs → Adds s fs bs gs cs → GoesOn whole (drop (i + 1) whole) gs cs
-goes_on_at whole i s fs gs bs cs within is g a =
-    goes_on_added whole s (drop (i + 1) whole) fs gs bs cs
-    (subst (λ z. GoesOn whole z fs bs) (drop_more whole i s within ∙ ap (λ x. x ∷ drop (i + 1) whole) (sym is)) g) a
 
 none_judged : Judged [] [] []
 none_judged = record {
@@ -109,25 +113,38 @@ at_end : (whole : List Statement) (fs : List Lined) (bs : List Break) → GoesOn
 at_end whole fs bs g =
     subst (λ z. Judged whole fs z) (append-nil bs) (subst (λ z. Judged whole z (bs ++ [])) (append-nil fs) (g.on [] [] none_judged))
 
-pub judged_at_end : (whole : List Statement) (n : ℕ) (fs : List Lined) (bs : List Break) → GoesOn whole (drop n whole) fs bs → length whole ≤ n → Judged whole fs bs
-judged_at_end whole n fs bs g past = at_end whole fs bs (subst (λ z. GoesOn whole z fs bs) (drop_all n whole past) g)
+pub judged_at_end : (whole left : List Statement) (fs : List Lined) (bs : List Break) → GoesOn whole left fs bs →
+    length left ≡ 0 → Judged whole fs bs
+judged_at_end whole [] fs bs g none = at_end whole fs bs g
+judged_at_end whole (s ∷ left) fs bs g none = absurd (omega arith)
 
-pub least_judged : (whole : List Statement) (fs : List Lined) (bs : List Break) (line rule : ℕ) → Judged whole fs bs → first_of bs ≡ Some (broken_at line rule) →
+pub least_judged : (whole : List Statement) (fs : List Lined) (bs : List Break) (line rule : ℕ) → Judged whole fs bs →
+    first_of bs ≡ Some (broken_at line rule) →
     IsLeast (OneBreaks whole) line rule
 least_judged whole fs bs line rule j e = first_is_least (OneBreaks whole) bs (broken_at line rule) j.broken e
 
-pub form_added : (s : Statement) (ts : List Token) (f : Form) (fs gs : List Lined) (bs : List Break) → ts ≡ s.tokens → IsOfForm ts f → most_open 0 ts ≤ most_brackets →
+pub form_added : (s : Statement) (ts : List Token) (f : Form) (fs gs : List Lined) (bs : List Break) → ts ≡ s.tokens →
+    IsOfForm ts f → most_open 0 ts ≤ most_brackets →
     gs ≡ fs ++ (s.line, f) ∷ [] → Adds s fs bs gs bs
 form_added s ts f fs gs bs same is few e = subst (λ z. Adds s fs bs z bs) (sym e)
-    (form (s.line, f) (record { line = refl; form = subst (λ t. IsOfForm t f) same is; few = subst (λ t. most_open 0 t ≤ most_brackets) same few }))
+    (form (s.line, f)
+    (record {
+      line = refl;
+      form = subst (λ t. IsOfForm t f) same is;
+      few =
+          subst (λ t. most_open 0 t ≤ most_brackets) same few;
+    }))
 
-pub break_added : (s : Statement) (ts : List Token) (l r : ℕ) (fs : List Lined) (bs cs : List Break) → ts ≡ s.tokens → Broken s.line.0 ts l r →
+pub break_added : (s : Statement) (ts : List Token) (l r : ℕ) (fs : List Lined) (bs cs : List Break) → ts ≡ s.tokens →
+    Broken s.line.0 ts l r →
     cs ≡ bs ++ broken_at l r ∷ [] → Adds s fs bs fs cs
-break_added s ts l r fs bs cs same b e = subst (λ z. Adds s fs bs fs z) (sym e) (broken l r (subst (λ t. Broken s.line.0 t l r) same b))
+break_added s ts l r fs bs cs same b e = subst (λ z. Adds s fs bs fs z) (sym e)
+    (broken l r (subst (λ t. Broken s.line.0 t l r) same b))
 
 no_first : (bs : List Break) → first_of bs ≡ None → bs ≡ []
 no_first [] e = refl
 no_first (b ∷ bs) e = absurd (cc)
 
-pub formed_judged : (whole : List Statement) (fs : List Lined) (bs : List Break) → Judged whole fs bs → first_of bs ≡ None → AreForms whole fs
+pub formed_judged : (whole : List Statement) (fs : List Lined) (bs : List Break) → Judged whole fs bs → first_of bs ≡ None →
+    AreForms whole fs
 formed_judged whole fs bs j e = j.formed (no_first bs e)

@@ -1,12 +1,14 @@
 -- Each form of a text stands on one of its lines, and it has no more lines than bytes.
-use Rattle.std.proofs.Common.{◌≡◌, ℕ, suc, ◌+◌, ◌≤◌, ◌<◌, Bool, true, false, ◌&&◌, ◌==◌, cond, List, [], ◌∷◌, ◌++◌, length, sym, subst, arith}
+use Rattle.std.proofs.Common.{◌≡◌, ℕ, suc, ◌+◌, ◌≤◌, ◌<◌, Bool, true, false, ◌&&◌, ◌==◌, cond, List, [], ◌∷◌, ◌++◌, length, sym}
+use Rattle.std.proofs.Common.{subst, arith}
 use Rattle.std.proofs.lemmas.List.Sums.{count_by-le-length}
 use Rattle.a95_base.specs.Lists.{Every}
 use Rattle.a95_base.proofs.Lists.{Every-append, Every-right, Every-map, Every-all}
 use Rattle.f95_lexer.specs.declared.character.Character.{Character}
 use Rattle.f95_lexer.specs.declared.token.Token.{Token}
 use Rattle.f95_lexer.specs.declared.token.Statement.{Statement}
-use Rattle.f95_lexer.specs.Continuation.{Onward, Ended, after, StatementLine, character, characters, all_characters, AreRead, none, passed, stands}
+use Rattle.f95_lexer.specs.Continuation.{Onward, Ended, after, StatementLine, character, characters, all_characters, AreRead, none}
+use Rattle.f95_lexer.specs.Continuation.{passed, stands}
 use Rattle.f95_lexer.specs.Lines.{onto, begins_with_feed, text_lines}
 use Rattle.f95_lexer.specs.Spelling.{BeginsOn, Spelled, nothing, next, Cuts}
 use Rattle.f95_lexer.specs.Statements.{Item, Ends, Stands, with_statement, parts_of, statements_of}
@@ -51,7 +53,8 @@ module _ (bound : ℕ) where
   TokensWithin line [] = Unit {0}
   TokensWithin line (t ∷ ts) = line < bound
 
-  numbered : (before : Onward) (n : ℕ) (texts : List (List ℕ)) (ls : List StatementLine) (behind : Onward) → AreRead before n texts ls behind →
+  numbered : (before : Onward) (n : ℕ) (texts : List (List ℕ)) (ls : List StatementLine) (behind : Onward) →
+      AreRead before n texts ls behind →
       n + length texts ≤ bound → Every LineWithin ls
   numbered before n texts ls behind (none _ _) h = tt
   numbered before n texts ls behind (passed _ _ text rest _ _ c r) h = numbered before (n + 1) rest ls behind r (omega (arith, h))
@@ -63,9 +66,11 @@ module _ (bound : ℕ) where
 
   all_within : (ls : List StatementLine) → Every LineWithin ls → Every CharacterWithin (all_characters ls)
   all_within [] h = tt
-  all_within (l ∷ ls) h = Every-append CharacterWithin (characters l) (all_characters ls) (line_characters l h.0) (all_within ls h.1)
+  all_within (l ∷ ls) h = Every-append CharacterWithin (characters l) (all_characters ls) (line_characters l h.0)
+      (all_within ls h.1)
 
-  begun_within : (line : ℕ) (written rest : List Character) → BeginsOn line written → Every CharacterWithin (written ++ rest) → line < bound
+  begun_within : (line : ℕ) (written rest : List Character) → BeginsOn line written → Every CharacterWithin (written ++ rest) →
+      line < bound
   begun_within line [] rest b h = absurd b
   begun_within line (c ∷ cs) rest b h = subst (λ n. n < bound) b h.0
 
@@ -96,7 +101,8 @@ module _ (bound : ℕ) where
       let parts = parts_within items h in
       with_within (parts_of items).line (parts_of items).tokens (parts_of items).behind parts.0 parts.1
 
-cut_within : (bytes : List ℕ) (statements : List Statement) (feeds : ℕ) → Cuts bytes statements feeds → Every (StatementWithin (suc (length bytes))) statements
+cut_within : (bytes : List ℕ) (statements : List Statement) (feeds : ℕ) → Cuts bytes statements feeds →
+    Every (StatementWithin (suc (length bytes))) statements
 cut_within bytes statements feeds cut =
     let bound = suc (length bytes) in
     let most = lines_most bytes in
@@ -104,7 +110,8 @@ cut_within bytes statements feeds cut =
     let items = items_within bound (all_characters cut.lines) cut.items cut.spelled (all_within bound cut.lines lines) in
     subst (Every (StatementWithin bound)) (sym cut.are) (statements_within bound cut.items items)
 
-forms_within : (most : ℕ) (ss : List Statement) (fs : List Lined) → AreForms ss fs → Every (StatementWithin (suc most)) ss → Every (λ (f : Lined). f.0.0 ≤ most) fs
+forms_within : (most : ℕ) (ss : List Statement) (fs : List Lined) → AreForms ss fs → Every (StatementWithin (suc most)) ss →
+    Every (λ (f : Lined). f.0.0 ≤ most) fs
 forms_within most [] [] a h = tt
 forms_within most [] (f ∷ fs) a h = absurd a
 forms_within most (s ∷ ss) [] a h = absurd a
@@ -112,7 +119,8 @@ forms_within most (s ∷ ss) (f ∷ fs) a h =
     let first : s.line.0 ≤ most = omega (arith, h.0) in
     (subst (λ l. l.0 ≤ most) (sym a.0.line) first, forms_within most ss fs a.1 h.1)
 
-pub lines_within : (bytes : List ℕ) (fs : List Lined) (feeds : ℕ) → HasForms bytes fs feeds → Every (λ (f : Lined). f.0.0 ≤ length bytes) fs
+pub lines_within : (bytes : List ℕ) (fs : List Lined) (feeds : ℕ) → HasForms bytes fs feeds →
+    Every (λ (f : Lined). f.0.0 ≤ length bytes) fs
 lines_within bytes fs feeds h = forms_within (length bytes) h.statements fs h.are (cut_within bytes h.statements feeds h.cut)
 
 -- and so has no more line feeds

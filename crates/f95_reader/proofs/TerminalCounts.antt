@@ -1,5 +1,6 @@
 -- The forms of a text have at most twice as many terminals as the text has bytes.
-use Rattle.std.proofs.Common.{◌≡◌, ℕ, zero, suc, ◌+◌, ◌*◌, ◌≤◌, Bool, true, false, List, [], ◌∷◌, ◌++◌, length, Option, Some, None, sym, ◌∙◌, ap, subst, refl, arith}
+use Rattle.std.proofs.Common.{◌≡◌, ℕ, zero, suc, ◌+◌, ◌*◌, ◌≤◌, Bool, true, false, List, [], ◌∷◌, ◌++◌, length, Option, Some, None}
+use Rattle.std.proofs.Common.{sym, ◌∙◌, ap, subst, refl, arith}
 use Rattle.std.proofs.lemmas.List.{length-append}
 use Rattle.f95_lexer.specs.declared.token.Token.{Token}
 use Rattle.f95_lexer.specs.declared.token.Token.TheVariants as token
@@ -49,6 +50,7 @@ forms_counted (s ∷ ss) (f ∷ fs) a =
     let h = forms_counted ss fs a.1 in let k = twice 0 s.tokens in
     let e : length (terminals_of s.tokens) ≡ length (spell_form f.1) = ap length a.0.form.spelled in omega (arith, h, k, e)
 
-pub terminals_within : (bytes : List ℕ) (fs : List Lined) (feeds : ℕ) → HasForms bytes fs feeds → terminal_count fs ≤ 2 * length bytes
+pub terminals_within : (bytes : List ℕ) (fs : List Lined) (feeds : ℕ) → HasForms bytes fs feeds → terminal_count fs ≤ 2
+    * length bytes
 terminals_within bytes fs feeds h =
     let a = forms_counted h.statements fs h.are in let b = tokens_within bytes h.statements feeds h.cut in omega (arith, a, b)

@@ -1,5 +1,6 @@
 -- Bytes are cut into no more tokens than there are bytes: each token has a character that is no blank and ends nothing.
-use Rattle.std.proofs.Common.{◌≡◌, ℕ, zero, suc, ◌+◌, ◌≤◌, Bool, true, false, ◌&&◌, ◌||◌, ◌==◌, cond, List, [], ◌∷◌, ◌++◌, length, map, Option, Some, None, sym, ◌∙◌, ap, subst, refl, inl, inr, ⊎_elim, arith}
+use Rattle.std.proofs.Common.{◌≡◌, ℕ, zero, suc, ◌+◌, ◌≤◌, Bool, true, false, ◌&&◌, ◌||◌, ◌==◌, cond, List, [], ◌∷◌, ◌++◌, length}
+use Rattle.std.proofs.Common.{map, Option, Some, None, sym, ◌∙◌, ap, subst, refl, inl, inr, ⊎_elim, arith}
 use Rattle.std.specs.Prelude.{if◌then◌else◌}
 use Rattle.std.specs.List.{flat_map}
 use Rattle.std.proofs.lemmas.Bool.Decides.{nat_tests}
@@ -13,8 +14,12 @@ use Rattle.f95_lexer.specs.Characters.{is_blank, is_letter, is_digit, is_delimit
 use Rattle.f95_lexer.specs.Lexeme.{bytes_of}
 use Rattle.f95_lexer.specs.Lines.{onto, begins_with_feed, text_lines}
 use Rattle.f95_lexer.specs.Statements.{Item, Ends, Stands, Parts, statement, with_statement, whole, parts_of, statements_of}
-use Rattle.f95_lexer.specs.Spelling.{SpellsToken, SpellsWord, SpellsNumber, SpellsText, SpellsDotted, SpellsMark, symbol_text, Spells, Spelled, nothing, next, Cuts}
-use Rattle.f95_lexer.specs.Continuation.{Onward, Ended, after, StatementLine, opened, kept, parted, character, characters, all_characters, IsCode, whole as uncommented, commented, IsContinued, goes_on, ends, HasBody, Begins, initial, joined, apart, continues_nothing, cut_off, IsRead, alone, more, AreRead, none, passed, stands, HasLines}
+use Rattle.f95_lexer.specs.Spelling.{SpellsToken, SpellsWord, SpellsNumber, SpellsText, SpellsDotted, SpellsMark, symbol_text}
+use Rattle.f95_lexer.specs.Spelling.{Spells, Spelled, nothing, next, Cuts}
+use Rattle.f95_lexer.specs.Continuation.{Onward, Ended, after, StatementLine, opened, kept, parted, character, characters}
+use Rattle.f95_lexer.specs.Continuation.{all_characters, IsCode, whole as uncommented, commented, IsContinued, goes_on, ends}
+use Rattle.f95_lexer.specs.Continuation.{HasBody, Begins, initial, joined, apart, continues_nothing, cut_off, IsRead, alone, more}
+use Rattle.f95_lexer.specs.Continuation.{AreRead, none, passed, stands, HasLines}
 use Rattle.f95_reader.specs.Sizes.{token_count}
 
 -- whether a character is neither blank nor a line feed
@@ -59,9 +64,12 @@ mark_solid mark.Open = omega arith
 mark_solid m = omega arith
 
 token_solid : (t : Token) (written rest : List ℕ) → SpellsToken t written rest → 1 ≤ solids written
-token_solid (token.Word w) written rest s = subst (λ z. 1 ≤ solids z) (sym s.is) (front_solid s.letter s.more (letter_solid s.letter s.begun))
-token_solid (token.Number z) written rest s = subst (λ z. 1 ≤ solids z) (sym s.is) (front_solid s.digit s.more (digit_solid s.digit s.begun))
-token_solid (token.Text t) written rest s = subst (λ z. 1 ≤ solids z) (sym s.is) (front_solid s.delimiter _ (delimiter_solid s.delimiter s.begun))
+token_solid (token.Word w) written rest s = subst (λ z. 1 ≤ solids z) (sym s.is)
+    (front_solid s.letter s.more (letter_solid s.letter s.begun))
+token_solid (token.Number z) written rest s = subst (λ z. 1 ≤ solids z) (sym s.is)
+    (front_solid s.digit s.more (digit_solid s.digit s.begun))
+token_solid (token.Text t) written rest s = subst (λ z. 1 ≤ solids z) (sym s.is)
+    (front_solid s.delimiter _ (delimiter_solid s.delimiter s.begun))
 token_solid (token.Dotted w) written rest s = subst (λ z. 1 ≤ solids z) (sym s.is) (front_solid 46 _ refl)
 token_solid (token.Mark m) written rest s = subst (λ z. 1 ≤ solids z) (sym s.is) (mark_solid m)
 
@@ -75,7 +83,8 @@ bytes_append : (xs ys : List Character) → bytes_of (xs ++ ys) ≡ bytes_of xs 
 bytes_append [] ys = refl
 bytes_append (x ∷ xs) ys = ap (λ z. x.byte ∷ z) (bytes_append xs ys)
 
-pieces_solid : (gap written rest : List Character) → solids (bytes_of (gap ++ (written ++ rest))) ≡ solids (bytes_of gap) + (solids (bytes_of written) + solids (bytes_of rest))
+pieces_solid : (gap written rest : List Character) → solids (bytes_of (gap ++ (written ++ rest))) ≡ solids (bytes_of gap)
+    + (solids (bytes_of written) + solids (bytes_of rest))
 pieces_solid gap written rest =
     ap solids (bytes_append gap (written ++ rest)) ∙ solids_append (bytes_of gap) (bytes_of (written ++ rest))
     ∙ ap (λ n. solids (bytes_of gap) + n) (ap solids (bytes_append written rest) ∙ solids_append (bytes_of written) (bytes_of rest))
@@ -92,7 +101,8 @@ spelled_solid cs items (next gap written rest {i = Stands line t} {items = more_
 abbrev tokens_in : Parts → ℕ
 tokens_in p = length p.tokens + token_count p.behind
 
-with_counted : (line : ℕ) (ts : List Token) (behind : List Statement) → token_count (with_statement line ts behind) ≡ length ts + token_count behind
+with_counted : (line : ℕ) (ts : List Token) (behind : List Statement) → token_count (with_statement line ts behind) ≡ length ts
+    + token_count behind
 with_counted line [] behind = omega arith
 with_counted line (t ∷ ts) behind = refl
 
@@ -138,7 +148,8 @@ record Leads (lead text rest : List ℕ) : Type 0 where
   none : solids lead ≡ 0
   less : solids rest ≤ solids text
 
-begins_solid : (before : Onward) (text lead : List ℕ) (inside : Option ℕ) (rest : List ℕ) → Begins before text lead inside rest → Leads lead text rest
+begins_solid : (before : Onward) (text lead : List ℕ) (inside : Option ℕ) (rest : List ℕ) → Begins before text lead inside rest →
+    Leads lead text rest
 begins_solid before text lead inside rest (initial _ h) = record { none = refl; less = omega arith }
 begins_solid before text lead inside rest (joined _ from lines _) = record { none = refl; less = omega arith }
 begins_solid before text lead inside rest (apart from lines _ h) = record { none = refl; less = omega arith }
@@ -149,7 +160,8 @@ ending_solid : (b : Bool) → solids (cond b [] (10 ∷ [])) ≡ 0
 ending_solid true = refl
 ending_solid false = refl
 
-left_solid : (l : StatementLine) → solids l.lead ≡ 0 → solids l.body ≤ solids l.text → solids (bytes_of (characters l)) ≤ solids l.text
+left_solid : (l : StatementLine) → solids l.lead ≡ 0 → solids l.body ≤ solids l.text → solids (bytes_of (characters l))
+    ≤ solids l.text
 left_solid l lead body =
     let e = ap solids (bytes_on l.number (l.lead ++ (parted l.inside l.body ++ cond l.continued [] (10 ∷ []))))
     ∙ solids_append l.lead (parted l.inside l.body ++ cond l.continued [] (10 ∷ [])) in
@@ -158,12 +170,15 @@ left_solid l lead body =
     omega (arith, e, f, g, h, lead, body)
 
 read_solid : (l : StatementLine) → IsRead l → solids (bytes_of (characters l)) ≤ solids l.text
-read_solid l (alone a lead inside body b) = left_solid l (ap solids lead) (subst (λ z. solids z ≤ solids l.text) (sym body) (omega arith))
+read_solid l (alone a lead inside body b) = left_solid l (ap solids lead)
+    (subst (λ z. solids z ≤ solids l.text) (sym body) (omega arith))
 read_solid l (more rest a begun body) =
-    let b = begins_solid l.before l.text l.lead l.inside rest begun in let h = has_body_solid l.inside rest l.body l.continued body in
+    let b = begins_solid l.before l.text l.lead l.inside rest begun in let h =
+    has_body_solid l.inside rest l.body l.continued body in
     left_solid l b.none (omega (arith, h, b.less))
 
-blank_less : (x : ℕ) (xs : List ℕ) (t : Bool) → length (from_blank xs) ≤ length xs → length (cond t (from_blank xs) (x ∷ xs)) ≤ length (x ∷ xs)
+blank_less : (x : ℕ) (xs : List ℕ) (t : Bool) → length (from_blank xs) ≤ length xs → length (cond t (from_blank xs) (x ∷ xs))
+    ≤ length (x ∷ xs)
 blank_less x xs true h = omega (arith, h)
 blank_less x xs false h = omega arith
 
@@ -176,12 +191,16 @@ abbrev all_of : List (List ℕ) → ℕ
 all_of [] = 0
 all_of (x ∷ xs) = length x + all_of xs
 
-all_solid : (ls : List StatementLine) (l : StatementLine) → solids (bytes_of (all_characters (l ∷ ls))) ≡ solids (bytes_of (characters l)) + solids (bytes_of (all_characters ls))
-all_solid ls l = ap solids (bytes_append (characters l) (all_characters ls)) ∙ solids_append (bytes_of (characters l)) (bytes_of (all_characters ls))
+all_solid : (ls : List StatementLine) (l : StatementLine) → solids (bytes_of (all_characters (l ∷ ls)))
+    ≡ solids (bytes_of (characters l)) + solids (bytes_of (all_characters ls))
+all_solid ls l = ap solids (bytes_append (characters l) (all_characters ls))
+    ∙ solids_append (bytes_of (characters l)) (bytes_of (all_characters ls))
 
-lines_solid : (before : Onward) (n : ℕ) (texts : List (List ℕ)) (ls : List StatementLine) (behind : Onward) → AreRead before n texts ls behind → solids (bytes_of (all_characters ls)) ≤ all_of texts
+lines_solid : (before : Onward) (n : ℕ) (texts : List (List ℕ)) (ls : List StatementLine) (behind : Onward) →
+    AreRead before n texts ls behind → solids (bytes_of (all_characters ls)) ≤ all_of texts
 lines_solid before n texts ls behind (none _ _) = omega arith
-lines_solid before n texts ls behind (passed _ _ text rest _ _ c h) = let k = lines_solid before (n + 1) rest ls behind h in omega (arith, k)
+lines_solid before n texts ls behind (passed _ _ text rest _ _ c h) = let k = lines_solid before (n + 1) rest ls behind h in
+    omega (arith, k)
 lines_solid before n texts ls behind (stands l text rest lines _ c is r h) =
     let k = lines_solid (after l) (l.number + 1) rest lines behind h in
     let e = all_solid lines l in let o = read_solid l r in let m = solids_most l.text in
@@ -203,7 +222,8 @@ lines_within [] = omega arith
 lines_within (x ∷ xs) = line_within x xs (x == 10) (x == 13 && begins_with_feed xs) (lines_within xs)
 
 -- the tokens of a text are no more than its bytes
-pub tokens_within : (bytes : List ℕ) (statements : List Statement) (feeds : ℕ) → Cuts bytes statements feeds → token_count statements ≤ length bytes
+pub tokens_within : (bytes : List ℕ) (statements : List Statement) (feeds : ℕ) → Cuts bytes statements feeds →
+    token_count statements ≤ length bytes
 tokens_within bytes statements feeds cut =
     let a : token_count statements ≡ tokens_among cut.items = ap token_count cut.are ∙ statements_counted cut.items in
     let b = spelled_solid (all_characters cut.lines) cut.items cut.spelled in

@@ -16,15 +16,19 @@ use Rattle.f95_reader.proofs.LeastLaws.{reads}
 
 -- what the three phases say of what breaks none of their rules
 abbrev pub CutsWhole : Type 0
-CutsWhole = (bytes : List ℕ) → ((line rule : ℕ) → text.IsBroken bytes line rule → ⊥) → (statements : List Statement) × (feeds : ℕ) × Cuts bytes statements feeds
+CutsWhole = (bytes : List ℕ) → ((line rule : ℕ) → text.IsBroken bytes line rule → ⊥) → (statements : List Statement) × (feeds : ℕ)
+    × Cuts bytes statements feeds
 
 abbrev pub FormsWhole : Type 0
-FormsWhole = (line : ℕ) (tokens : List Token) → ((l r : ℕ) → Broken line tokens l r → ⊥) → (form : Form) × IsOfForm tokens form × (most_open 0 tokens ≤ most_brackets)
+FormsWhole = (line : ℕ) (tokens : List Token) → ((l r : ℕ) → Broken line tokens l r → ⊥) → (form : Form) × IsOfForm tokens form
+    × (most_open 0 tokens ≤ most_brackets)
 
 abbrev pub NestsWhole : Type 0
-NestsWhole = (forms : List Lined) (feeds : ℕ) → ((line rule : ℕ) → nesting.IsBroken forms feeds line rule → ⊥) → (s : Source) × Nests forms s
+NestsWhole = (forms : List Lined) (feeds : ℕ) → ((line rule : ℕ) → nesting.IsBroken forms feeds line rule → ⊥) →
+    (s : Source) × Nests forms s
 
-all_formed : FormsWhole → (ss : List Statement) → ((line rule : ℕ) → OneBreaks ss line rule → ⊥) → (forms : List Lined) × AreForms ss forms
+all_formed : FormsWhole → (ss : List Statement) → ((line rule : ℕ) → OneBreaks ss line rule → ⊥) → (forms : List Lined)
+    × AreForms ss forms
 all_formed whole [] unbroken = ([], tt)
 all_formed whole (s ∷ ss) unbroken =
     let first = whole s.line.0 s.tokens (λ l. λ r. λ b. unbroken l r (record { statement = s; among = inl refl; broken = b })) in

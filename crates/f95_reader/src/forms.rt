@@ -41,25 +41,25 @@ impl Judgement {
 }
 
 /// All statements, judged.
-#[tactic(auto, using(crate::proofs::Judgements::goes_on_first, crate::proofs::Judgements::judged_at_end))]
-fn judged(alloc: Global, statements: &[Statement]) -> Result<Judgement, AllocError>
-    ensures { IfOk result (λ j. Judged statements.now j.forms.items j.breaks.items) }
+#[tactic(auto, using(crate::proofs::Judgements::goes_on_first))]
+fn judged(alloc: Global, statements: Vec<Statement>) -> Result<Judgement, AllocError>
+    ensures { IfOk result (λ j. Judged statements.items j.forms.items j.breaks.items) }
 {
     let mut judgement = Judgement {
         forms: Vec::new(alloc),
         breaks: Vec::new(alloc),
     };
     for statement in statements {
-        judgement.add(alloc, statement)?;
+        judgement.add(alloc, &statement)?;
     }
     Ok(judgement)
 }
 
-/// Each statement's form, with its line.
+/// Each statement's form, with its line. A statement is gone once its form is read.
 #[tactic(auto, using(crate::proofs::Judgements::least_judged, crate::proofs::Judgements::formed_judged))]
-pub fn forms_of(alloc: Global, statements: &[Statement]) -> Result<Vec<(Line, Form)>, PhaseError>
-    ensures formed { IfOk result (λ forms. AreForms statements.now forms.items) }
-    ensures refused { IfErr result (RefusesForms statements.now) }
+pub fn forms_of(alloc: Global, statements: Vec<Statement>) -> Result<Vec<(Line, Form)>, PhaseError>
+    ensures formed { IfOk result (λ forms. AreForms statements.items forms.items) }
+    ensures refused { IfErr result (RefusesForms statements.items) }
 {
     let Judgement { forms, breaks } = judged(alloc, statements)?;
     match first_of(breaks.as_slice()) {

@@ -25,7 +25,7 @@ pub fn read_source(alloc: Global, bytes: &[u8]) -> Result<Source, Refusal>
         Ok(statements) => statements,
         Err(error) => return Err(Refusal::in_phase(1, error)),
     };
-    let forms = match forms_of(alloc, statements.list.as_slice()) {
+    let forms = match forms_of(alloc, statements.list) {
         Ok(forms) => forms,
         Err(error) => return Err(Refusal::in_phase(2, error)),
     };

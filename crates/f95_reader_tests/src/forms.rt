@@ -1,7 +1,7 @@
 //! Statements that are of a form and statements that aren't, by table.
 
 use crate::shown::put_right_side;
-use a95_base::{Bytes, Line, PhaseError};
+use a95_base::{Bytes, Line, PhaseError, SharedBytes};
 use f95_lexer::{Mark, Token, read_statements};
 use f95_parser::read_form;
 use std::alloc::Global;
@@ -401,7 +401,8 @@ fn brackets(rt: HostRuntime) -> Result<(), Fail> {
 /// `a = 1 op 1 op 1`, with so many operators.
 fn chain(alloc: Global, operator: Mark, count: usize) -> Result<Vec<Token>, PhaseError> {
     let mut tokens = Vec::new(alloc);
-    tokens.push(Token::Word(Bytes::from_slice(alloc, b"a")?))?;
+    let name = Bytes::from_slice(alloc, b"a")?;
+    tokens.push(Token::Word(SharedBytes::new(alloc, name)?))?;
     tokens.push(Token::Mark(Mark::Assign))?;
     tokens.push(Token::Number(1))?;
     for _ in 0..count {

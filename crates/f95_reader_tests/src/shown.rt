@@ -119,28 +119,29 @@ fn put_reference(out: &mut String, reference: &Reference) -> Result<(), AllocErr
         Reference::Items(name, items) => {
             put_bytes(out, name.as_slice())?;
             out.push_str("(")?;
-            for item in items.as_slice() {
+            for item in items.get().as_slice() {
                 put_item(out, item)?;
                 out.push_str(";")?;
             }
             out.push_str(")")
         }
-        Reference::Substring(name, items, lower, upper) => {
+        Reference::Substring(name, items, range) => {
             put_bytes(out, name.as_slice())?;
             out.push_str("(")?;
-            for item in items.as_slice() {
+            for item in items.get().as_slice() {
                 put_item(out, item)?;
                 out.push_str(";")?;
             }
             out.push_str(")")?;
-            match lower {
+            let range = range.get();
+            match &range.0 {
                 None => out.push_str("_")?,
-                Some(lower) => put(out, lower.get())?,
+                Some(lower) => put(out, lower)?,
             }
             out.push_str("..")?;
-            match upper {
+            match &range.1 {
                 None => out.push_str("_")?,
-                Some(upper) => put(out, upper.get())?,
+                Some(upper) => put(out, upper)?,
             }
             Ok(())
         }
@@ -152,7 +153,7 @@ fn put_value(out: &mut String, value: &Value) -> Result<(), AllocError> {
     match value {
         Value::One(inner) => put(out, inner),
         Value::ImpliedDo(values, name, first, last, step) => {
-            for value in values.as_slice() {
+            for value in values.get().as_slice() {
                 put_value(out, value)?;
                 out.push_str(",")?;
             }
@@ -173,7 +174,7 @@ fn put_value(out: &mut String, value: &Value) -> Result<(), AllocError> {
 /// The right side of an assignment.
 pub fn put_right_side(out: &mut String, form: &Form) -> Result<(), AllocError> {
     match form {
-        Form::Action(Action::Assignment(assignment)) => put(out, &assignment.value),
+        Form::Action(Action::Assignment(assignment)) => put(out, &assignment.get().value),
         _ => Ok(()),
     }
 }

@@ -1,5 +1,6 @@
 -- The terminals of a source's statements are among those of its forms, of which bytes have at most twice as many as bytes.
-use Rattle.std.proofs.Common.{◌≡◌, ℕ, ◌+◌, ◌*◌, ◌≤◌, Bool, true, List, [], ◌∷◌, ◌++◌, length, map, Option, Some, None, sym, ◌∙◌, ap, subst, refl, arith}
+use Rattle.std.proofs.Common.{◌≡◌, ℕ, ◌+◌, ◌*◌, ◌≤◌, Bool, true, List, [], ◌∷◌, ◌++◌, length, map, Option, Some, None, sym, ◌∙◌, ap}
+use Rattle.std.proofs.Common.{subst, refl, arith}
 use Rattle.std.specs.List.{sum_by}
 use Rattle.std.proofs.lemmas.List.Sums.{sum_by-cons}
 use Rattle.a95_base.specs.declared.source.Line.{Line}
@@ -18,7 +19,10 @@ use Rattle.f95_tree.specs.declared.source.Branch.{Branch}
 use Rattle.f95_tree.specs.declared.source.Case.{Case}
 use Rattle.f95_tree.specs.declared.source.Otherwise.{Otherwise}
 use Rattle.f95_nesting.specs.Nesting.{Lined, Nests, forms_of}
-use Rattle.f95_nesting.specs.Placed.{Text, Context, Body, Part, Range, together, in_main, statement_at, branch_at, case_at, otherwise_at, statement_text, statements_text, declared, use_placed, implicit_text, section_text, contains_text, unit_end, program_text, program_name, is_filled, main_text, modules_text, source_text}
+use Rattle.f95_nesting.specs.Placed.{Text, Context, Body, Part, Range, together, in_main, statement_at, branch_at, case_at}
+use Rattle.f95_nesting.specs.Placed.{otherwise_at, statement_text, statements_text, declared, use_placed, implicit_text}
+use Rattle.f95_nesting.specs.Placed.{section_text, contains_text, unit_end, program_text, program_name, is_filled, main_text}
+use Rattle.f95_nesting.specs.Placed.{modules_text, source_text}
 use Rattle.f95_reader.specs.Reading.{HasForms, ReadsSource}
 use Rattle.f95_reader.specs.Sizes.{terminal_count}
 use Rattle.rank_one.specs.declared.unit.Unit as unit
@@ -62,27 +66,40 @@ action_among l a = λ c.
     let left : statement_terminals (roll-Statement (layer.Action l a)) ≡ length (action_text a) =
     fold-roll-Statement ℕ (Unit {0}) (Unit {0}) (Unit {0}) terminals_at (λ _. tt) (λ _. tt) (λ _. tt) (layer.Action l a) in
     let right : counted (statement_text (roll-Statement (layer.Action l a)) c) ≡ length (action_text a) + 0 =
-    ap (λ (b : Body). counted (b c)) (fold-roll-Statement Body Part Range Part statement_at branch_at case_at otherwise_at (layer.Action l a)) in
+    ap (λ (b : Body). counted (b c))
+    (fold-roll-Statement Body Part Range Part statement_at branch_at case_at otherwise_at (layer.Action l a)) in
     omega (arith, left, right)
 
 layer_among : (y : Statement-F ((x : Statement) × IsAmong x) ((x : Branch) × Any x) ((x : Case) × Any x) ((x : Otherwise) × Any x))
-    → IsAmong (roll-Statement (map-Statement ((x : Statement) × IsAmong x) ((x : Branch) × Any x) ((x : Case) × Any x) ((x : Otherwise) × Any x) Statement Branch Case Otherwise (λ p. p.0) (λ p. p.0) (λ p. p.0) (λ p. p.0) y))
+    → IsAmong
+    (roll-Statement
+    (map-Statement ((x : Statement) × IsAmong x) ((x : Branch) × Any x) ((x : Case) × Any x) ((x : Otherwise) × Any x) Statement
+    Branch Case Otherwise (λ p. p.0) (λ p. p.0) (λ p. p.0) (λ p. p.0) y))
 layer_among (layer.Action l a) = action_among l a
-layer_among (layer.If l e a) = block_among (layer.If l e a) (fold-roll-Statement ℕ (Unit {0}) (Unit {0}) (Unit {0}) terminals_at (λ _. tt) (λ _. tt) (λ _. tt) (layer.If l e a))
+layer_among (layer.If l e a) =
+    block_among (layer.If l e a)
+    (fold-roll-Statement ℕ (Unit {0}) (Unit {0}) (Unit {0}) terminals_at (λ _. tt) (λ _. tt) (λ _. tt) (layer.If l e a))
 layer_among (layer.IfBlock l n e xs bs None end) = block_among (layer.IfBlock l n e (firsts xs) (firsts bs) None end)
-    (fold-roll-Statement ℕ (Unit {0}) (Unit {0}) (Unit {0}) terminals_at (λ _. tt) (λ _. tt) (λ _. tt) (layer.IfBlock l n e (firsts xs) (firsts bs) None end))
+    (fold-roll-Statement ℕ (Unit {0}) (Unit {0}) (Unit {0}) terminals_at (λ _. tt) (λ _. tt) (λ _. tt)
+    (layer.IfBlock l n e (firsts xs) (firsts bs) None end))
 layer_among (layer.IfBlock l n e xs bs (Some o) end) = block_among (layer.IfBlock l n e (firsts xs) (firsts bs) (Some o.0) end)
-    (fold-roll-Statement ℕ (Unit {0}) (Unit {0}) (Unit {0}) terminals_at (λ _. tt) (λ _. tt) (λ _. tt) (layer.IfBlock l n e (firsts xs) (firsts bs) (Some o.0) end))
+    (fold-roll-Statement ℕ (Unit {0}) (Unit {0}) (Unit {0}) terminals_at (λ _. tt) (λ _. tt) (λ _. tt)
+    (layer.IfBlock l n e (firsts xs) (firsts bs) (Some o.0) end))
 layer_among (layer.Select l n e ks end) = block_among (layer.Select l n e (firsts ks) end)
-    (fold-roll-Statement ℕ (Unit {0}) (Unit {0}) (Unit {0}) terminals_at (λ _. tt) (λ _. tt) (λ _. tt) (layer.Select l n e (firsts ks) end))
+    (fold-roll-Statement ℕ (Unit {0}) (Unit {0}) (Unit {0}) terminals_at (λ _. tt) (λ _. tt) (λ _. tt)
+    (layer.Select l n e (firsts ks) end))
 layer_among (layer.Do l n k xs end) = block_among (layer.Do l n k (firsts xs) end)
-    (fold-roll-Statement ℕ (Unit {0}) (Unit {0}) (Unit {0}) terminals_at (λ _. tt) (λ _. tt) (λ _. tt) (layer.Do l n k (firsts xs) end))
-layer_among (layer.Where b) = block_among (layer.Where b) (fold-roll-Statement ℕ (Unit {0}) (Unit {0}) (Unit {0}) terminals_at (λ _. tt) (λ _. tt) (λ _. tt) (layer.Where b))
+    (fold-roll-Statement ℕ (Unit {0}) (Unit {0}) (Unit {0}) terminals_at (λ _. tt) (λ _. tt) (λ _. tt)
+    (layer.Do l n k (firsts xs) end))
+layer_among (layer.Where b) =
+    block_among (layer.Where b)
+    (fold-roll-Statement ℕ (Unit {0}) (Unit {0}) (Unit {0}) terminals_at (λ _. tt) (λ _. tt) (λ _. tt) (layer.Where b))
 layer_among (layer.Forall l h xs end) = block_among (layer.Forall l h xs end)
     (fold-roll-Statement ℕ (Unit {0}) (Unit {0}) (Unit {0}) terminals_at (λ _. tt) (λ _. tt) (λ _. tt) (layer.Forall l h xs end))
 
 statement_among : (x : Statement) → IsAmong x
-statement_among = ind-Statement IsAmong Any Any Any (λ x y is. subst (λ z. IsAmong (roll-Statement z)) is (layer_among y)) (λ x y is. tt) (λ x y is. tt) (λ x y is. tt)
+statement_among = ind-Statement IsAmong Any Any Any (λ x y is. subst (λ z. IsAmong (roll-Statement z)) is (layer_among y))
+    (λ x y is. tt) (λ x y is. tt) (λ x y is. tt)
 
 statements_among : (xs : List Statement) (c : Context) → sum_by statement_terminals xs ≤ counted (statements_text xs c)
 statements_among [] c = omega arith
@@ -117,11 +134,13 @@ section_among s =
 abbrev pub end_text : Main → Text
 end_text m = contains_text m.procedures ++ unit_end word.Program true (program_name m.opening) (is_filled m.procedures) m.end ∷ []
 
-main_among : (m : Main) → sum_by declared_terminals m.section.declarations + sum_by statement_terminals m.body ≤ counted (main_text m)
+main_among : (m : Main) → sum_by declared_terminals m.section.declarations + sum_by statement_terminals m.body
+    ≤ counted (main_text m)
 main_among m =
     let section = section_among m.section in
     let body = statements_among m.body in_main in
-    let whole = counted_append (program_text m.opening) (section_text m.section ++ (statements_text m.body in_main ++ end_text m)) in
+    let whole = counted_append (program_text m.opening) (section_text m.section ++ (statements_text m.body in_main ++ end_text m))
+    in
     let most = counted_append (section_text m.section) (statements_text m.body in_main ++ end_text m) in
     let last = counted_append (statements_text m.body in_main) (end_text m) in
     omega (arith, section, body, whole, most, last)
@@ -137,9 +156,11 @@ nested_among : (forms : List Lined) (s : Source) → Nests forms s → terminals
 nested_among forms s n = subst (λ fs. terminals_in s ≤ terminal_count fs) n.printed (source_among s)
 
 abbrev pub TerminalsWithin : Type 0
-TerminalsWithin = (bytes : List ℕ) (forms : List Lined) (feeds : ℕ) → HasForms bytes forms feeds → terminal_count forms ≤ 2 * length bytes
+TerminalsWithin = (bytes : List ℕ) (forms : List Lined) (feeds : ℕ) → HasForms bytes forms feeds → terminal_count forms ≤ 2
+    * length bytes
 
-pub size_within : TerminalsWithin → (bytes : List ℕ) (s : Source) (u : unit.Unit) → ReadsSource bytes s → size_of u ≤ terminals_in s → IsWithin u bytes
+pub size_within : TerminalsWithin → (bytes : List ℕ) (s : Source) (u : unit.Unit) → ReadsSource bytes s → size_of u ≤ terminals_in s
+    → IsWithin u bytes
 size_within within bytes s u r few =
     let among = nested_among r.forms s r.nests in
     let most = within bytes r.forms r.feeds r.has in

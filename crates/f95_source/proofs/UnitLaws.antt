@@ -11,7 +11,8 @@ abbrev pub OneSource : Type 0
 OneSource = (bytes : List ℕ) (a b : Source) → ReadsSource bytes a → ReadsSource bytes b → a ≡ b
 
 abbrev pub NothingBroken : Type 0
-NothingBroken = (bytes : List ℕ) (s : Source) (phase line rule : ℕ) → ReadsSource bytes s → reader.IsBroken bytes phase line rule → ⊥
+NothingBroken = (bytes : List ℕ) (s : Source) (phase line rule : ℕ) → ReadsSource bytes s → reader.IsBroken bytes phase line rule →
+    ⊥
 
 module _ (one : OneSource) where
   pub one_unit : (bytes : List ℕ) (a b : Unit) → Reads bytes a → Reads bytes b → a ≡ b
@@ -20,5 +21,7 @@ module _ (one : OneSource) where
 module _ (one : OneSource) (none : NothingBroken) where
   pub breaks_nothing : (bytes : List ℕ) (u : Unit) (phase line rule : ℕ) → Reads bytes u → IsBroken bytes phase line rule → ⊥
   breaks_nothing bytes u phase line rule r (before_names b) = none bytes r.source phase line rule r.reads b
-  breaks_nothing bytes u phase line rule r (not_built s q n) = r.is.built line rule (subst (λ z. IsNotYet z line rule) (one bytes s r.source q r.reads) n)
-  breaks_nothing bytes u phase line rule r (in_names s q built n) = r.is.declared line rule (subst (λ z. IsUndeclared z line rule) (one bytes s r.source q r.reads) n)
+  breaks_nothing bytes u phase line rule r (not_built s q n) =
+      r.is.built line rule (subst (λ z. IsNotYet z line rule) (one bytes s r.source q r.reads) n)
+  breaks_nothing bytes u phase line rule r (in_names s q built n) =
+      r.is.declared line rule (subst (λ z. IsUndeclared z line rule) (one bytes s r.source q r.reads) n)

@@ -25,7 +25,7 @@ pub fn read(alloc: Global, bytes: &[u8]) -> Result<Unit, Refusal>
         Ok(source) => source,
         Err(error) => return Err(error),
     };
-    match unit_of(alloc, &source) {
+    match unit_of(alloc, source) {
         Ok(Ok(unit)) => Ok(unit),
         Ok(Err(error)) => Err(Refusal::in_phase(4, error)),
         Err(error) => Err(Refusal::in_phase(3, error)),

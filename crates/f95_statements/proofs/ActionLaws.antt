@@ -22,20 +22,28 @@ use Rattle.f95_tree.specs.declared.action.Assignment.{Assignment}
 use Rattle.f95_tree.specs.declared.action.Header.{Header}
 use Rattle.f95_tree.specs.Spelling.{Text, punctuated, behind_commas, commas, in_brackets, expression, reference}
 use Rattle.f95_tree.specs.Grades.{all, some, well, well_reference}
-use Rattle.f95_tree.specs.Forms.{Word, named, maybe_named, star, action_word, block_word, any_unit, argument_text, allocation_text, header_text, assignment_text, maybe_literal, action_text}
+use Rattle.f95_tree.specs.Forms.{Word, named, maybe_named, star, action_word, block_word, any_unit, argument_text, allocation_text}
+use Rattle.f95_tree.specs.Forms.{header_text, assignment_text, maybe_literal, action_text}
 use Rattle.f95_tree.specs.WellFormed.{well_allocation, well_assignment, well_header, well_stop, well_action}
 use Rattle.f95_tree.proofs.Nodes.{reference-Whole, reference-Items, reference-Substring}
 use Rattle.f95_tree.proofs.Induction.{reference_cases}
 use Rattle.f95_expressions.specs.Machine.{collected, expression_of}
 use Rattle.f95_expressions.proofs.Lists.{both, joined, by_test}
 use Rattle.f95_expressions.proofs.Read.{mapped, chained}
-use Rattle.f95_parts.specs.Views.{is_nil, behind_star, behind_name, behind_keyword, behind_literal, at_end, nothing_more, name_at_end}
+use Rattle.f95_parts.specs.Views.{is_nil, behind_star, behind_name, behind_keyword, behind_literal, at_end, nothing_more}
+use Rattle.f95_parts.specs.Views.{name_at_end}
 use Rattle.f95_parts.specs.Parts.{reference_of, name_of, allocation_of}
-use Rattle.f95_parts.proofs.ViewLaws.{nil, star_sound, name_sound, literal_sound, keyword_sound, end_sound, more_sound, name_end_sound, name_end_again}
+use Rattle.f95_parts.proofs.ViewLaws.{nil, star_sound, name_sound, literal_sound, keyword_sound, end_sound, more_sound}
+use Rattle.f95_parts.proofs.ViewLaws.{name_end_sound, name_end_again}
 use Rattle.f95_parts.proofs.ListLaws.{Is}
 use Rattle.f95_parts.proofs.Instances.{expressions, references, names, always, all_names, well_argument, arguments, allocations}
-use Rattle.f95_statements.specs.Actions.{whole_bracket, listed, listed_behind, conditioned, headed, assigned, behind_unit, arguments_of, call_named, call_of, allocate_of, deallocate_of, print_of, write_of, read_unit, read_by, read_of, stop_code, stop_of, action_by, where_of, forall_of, blocked, action_worded, action_keyed, action_of}
-use Rattle.f95_statements.proofs.ConditionLaws.{assigned_sound, assigned_again, conditioned_sound, conditioned_again, headed_sound, headed_again, whole_list_sound, whole_list_again, within_sound, within_again, listed_sound, listed_again, listed_behind_sound, listed_behind_again, unit_sound}
+use Rattle.f95_statements.specs.Actions.{whole_bracket, listed, listed_behind, conditioned, headed, assigned, behind_unit}
+use Rattle.f95_statements.specs.Actions.{arguments_of, call_named, call_of, allocate_of, deallocate_of, print_of, write_of}
+use Rattle.f95_statements.specs.Actions.{read_unit, read_by, read_of, stop_code, stop_of, action_by, where_of, forall_of, blocked}
+use Rattle.f95_statements.specs.Actions.{action_worded, action_keyed, action_of}
+use Rattle.f95_statements.proofs.ConditionLaws.{assigned_sound, assigned_again, conditioned_sound, conditioned_again, headed_sound}
+use Rattle.f95_statements.proofs.ConditionLaws.{headed_again, whole_list_sound, whole_list_again, within_sound, within_again}
+use Rattle.f95_statements.proofs.ConditionLaws.{listed_sound, listed_again, listed_behind_sound, listed_behind_again, unit_sound}
 
 -- an action that is spelled so and well formed
 abbrev pub ActionIs : Text → Action → Type 0

@@ -1,5 +1,6 @@
 -- Brackets and rows of statements: what is read is spelled as the terminals and well formed, and what is spelled so is read.
-use Rattle.std.proofs.Common.{◌≡◌, Bool, true, false, ◌&&◌, List, [], ◌∷◌, ◌++◌, map, Option, Some, None, sym, ◌∙◌, ap, subst, refl, append_assoc, append-nil}
+use Rattle.std.proofs.Common.{◌≡◌, Bool, true, false, ◌&&◌, List, [], ◌∷◌, ◌++◌, map, Option, Some, None, sym, ◌∙◌, ap, subst, refl}
+use Rattle.std.proofs.Common.{append_assoc, append-nil}
 use Rattle.std.specs.Prelude.{option_map, option_and_then, if◌then◌else◌}
 use Rattle.f95_tree.specs.declared.expression.Expression.{Expression}
 use Rattle.f95_tree.specs.declared.terminal.Punctuation.TheVariants as mark
@@ -19,10 +20,13 @@ use Rattle.f95_expressions.proofs.Found.{bracket_again, bracket_sound, row_again
 use Rattle.f95_parts.specs.Views.{is_nil, behind, behind_star, at_end}
 use Rattle.f95_parts.specs.Parts.{header_of, assignment_of}
 use Rattle.f95_parts.proofs.ViewLaws.{nil, behind_sound, behind_again, star_sound, end_sound}
-use Rattle.f95_parts.proofs.PartLaws.{expression_again, expression_text, expression_well, assignment_field, assignment_sound, assignment_again, assignment_spelled, assignment_well}
+use Rattle.f95_parts.proofs.PartLaws.{expression_again, expression_text, expression_well, assignment_field, assignment_sound}
+use Rattle.f95_parts.proofs.PartLaws.{assignment_again, assignment_spelled, assignment_well}
 use Rattle.f95_parts.proofs.HeaderLaws.{inside_text, header_fields, header_sound, header_again}
-use Rattle.f95_parts.proofs.ListLaws.{Is, Parts, bracket_fields, row_list_sound, row_list_again, row_list_some, bracket_list_sound, bracket_list_again, within_list_sound, within_list_again, collected_fields, collected_inside}
-use Rattle.f95_statements.specs.Actions.{whole_bracket, only, condition_in, conditioned, header_in, headed, listed, listed_behind, assigned, behind_unit}
+use Rattle.f95_parts.proofs.ListLaws.{Is, Parts, bracket_fields, row_list_sound, row_list_again, row_list_some, bracket_list_sound}
+use Rattle.f95_parts.proofs.ListLaws.{bracket_list_again, within_list_sound, within_list_again, collected_fields, collected_inside}
+use Rattle.f95_statements.specs.Actions.{whole_bracket, only, condition_in, conditioned, header_in, headed, listed, listed_behind}
+use Rattle.f95_statements.specs.Actions.{assigned, behind_unit}
 
 -- ---- single fields
 

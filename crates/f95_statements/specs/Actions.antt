@@ -23,7 +23,8 @@ use Rattle.f95_tree.specs.Forms.{Word}
 use Rattle.f95_tree.specs.Spelling.{Text}
 use Rattle.f95_expressions.specs.declared.pending.Field.{Field}
 use Rattle.f95_expressions.specs.Machine.{collected, within, expression_of, bracket, row}
-use Rattle.f95_parts.specs.Views.{is_nil, behind, behind_star, behind_name, behind_keyword, behind_literal, at_end, nothing_more, name_at_end}
+use Rattle.f95_parts.specs.Views.{is_nil, behind, behind_star, behind_name, behind_keyword, behind_literal, at_end, nothing_more}
+use Rattle.f95_parts.specs.Views.{name_at_end}
 use Rattle.f95_parts.specs.Parts.{reference_of, name_of, argument_of, allocation_of, header_of, assignment_of}
 
 -- Brackets and rows.
@@ -56,14 +57,18 @@ listed make ts = if is_nil ts then Some [] else option_and_then (collected make 
 
 -- the same, each behind a comma
 abbrev pub listed_behind : {A : Type 0} → (Field → Option A) → Text → Option (List A)
-listed_behind make ts = if is_nil ts then Some [] else option_and_then (λ rest. option_and_then (collected make []) (row rest)) (behind mark.Comma ts)
+listed_behind make ts = if is_nil ts then Some [] else option_and_then (λ rest. option_and_then (collected make []) (row rest))
+    (behind mark.Comma ts)
 
 abbrev pub assigned : Text → Option Assignment
 assigned ts = option_and_then (λ fs. option_and_then assignment_of (only fs)) (row ts)
 
 -- what stands behind ( * , * )
 abbrev pub behind_unit : Text → Option Text
-behind_unit ts = option_and_then (λ a. option_and_then (λ b. option_and_then (λ c. option_and_then (behind mark.Close) (behind_star c)) (behind mark.Comma b)) (behind_star a)) (behind mark.Open ts)
+behind_unit ts =
+    option_and_then
+    (λ a. option_and_then (λ b. option_and_then (λ c. option_and_then (behind mark.Close) (behind_star c)) (behind mark.Comma b))
+    (behind_star a)) (behind mark.Open ts)
 
 -- Words.
 
@@ -71,7 +76,8 @@ abbrev pub arguments_of : Text → Option (List Argument)
 arguments_of ts = option_and_then (λ fs. collected argument_of [] (within fs)) (whole_bracket ts)
 
 abbrev pub call_named : Word × Text → Option Action
-call_named p = if is_nil p.1 then Some (act.Call p.0 None) else option_map (λ arguments. act.Call p.0 (Some arguments)) (arguments_of p.1)
+call_named p = if is_nil p.1 then Some (act.Call p.0 None) else option_map (λ arguments. act.Call p.0 (Some arguments))
+    (arguments_of p.1)
 
 abbrev pub call_of : Text → Option Action
 call_of ts = option_and_then call_named (behind_name ts)
@@ -104,7 +110,8 @@ stop_code (literal.Text t) = Some (literal.Text t)
 stop_code (literal.Logical _) = None
 
 abbrev pub stop_of : Text → Option Action
-stop_of ts = if is_nil ts then Some (act.Stop None) else option_map (λ code. act.Stop (Some code)) (option_and_then stop_code (option_and_then at_end (behind_literal ts)))
+stop_of ts = if is_nil ts then Some (act.Stop None) else option_map (λ code. act.Stop (Some code))
+    (option_and_then stop_code (option_and_then at_end (behind_literal ts)))
 
 abbrev pub action_by : ActionWord → Text → Option Action
 action_by word.Call ts = call_of ts

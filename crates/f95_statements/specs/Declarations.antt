@@ -1,5 +1,6 @@
 -- Which declaration, or which statement that begins a procedure, some terminals are, if any.
-use Rattle.std.specs.Prelude.{ℕ, ℤ, zero, suc, Bool, true, false, ◌&&◌, ◌||◌, not, length, reverse, map, List, [], ◌∷◌, ◌++◌, Option, Some, None, option_map, option_and_then, codes, if◌then◌else◌}
+use Rattle.std.specs.Prelude.{ℕ, ℤ, zero, suc, Bool, true, false, ◌&&◌, ◌||◌, not, length, reverse, map, List, [], ◌∷◌, ◌++◌}
+use Rattle.std.specs.Prelude.{Option, Some, None, option_map, option_and_then, codes, if◌then◌else◌}
 use Rattle.f95_tree.specs.declared.expression.Expression.{Expression}
 use Rattle.f95_tree.specs.declared.expression.Literal.{Literal}
 use Rattle.f95_tree.specs.declared.expression.Literal.TheVariants as literal
@@ -41,7 +42,8 @@ use Rattle.f95_expressions.specs.declared.pending.Field.{Field}
 use Rattle.f95_expressions.specs.declared.pending.Spread.{Spread}
 use Rattle.f95_expressions.specs.declared.pending.Spread.TheVariants as spread
 use Rattle.f95_expressions.specs.Machine.{lone, whole, collected, within, items_of, bracket, row}
-use Rattle.f95_parts.specs.Views.{is, is_nil, behind, behind_star, behind_name, behind_keyword, behind_literal, behind_word, nothing_more}
+use Rattle.f95_parts.specs.Views.{is, is_nil, behind, behind_star, behind_name, behind_keyword, behind_literal, behind_word}
+use Rattle.f95_parts.specs.Views.{nothing_more}
 use Rattle.f95_parts.specs.Parts.{dims_of, name_of, entity_of, spread_expression}
 use Rattle.f95_statements.specs.Actions.{only, whole_bracket}
 
@@ -127,7 +129,8 @@ abbrev pub closed_intent : Intent × Text → Option (Attribute × Text)
 closed_intent p = option_map (λ rest. (attribute.Intent p.0, rest)) (behind mark.Close p.1)
 
 abbrev pub intent_of : Text → Option (Attribute × Text)
-intent_of ts = option_and_then (λ inside. option_and_then closed_intent (intent_at (behind_both inside) inside)) (behind mark.Open ts)
+intent_of ts = option_and_then (λ inside. option_and_then closed_intent (intent_at (behind_both inside) inside))
+    (behind mark.Open ts)
 
 abbrev pub dimension_in : List Field × Text → Option (Attribute × Text)
 dimension_in found = option_map (λ dims. (attribute.Dimension dims, found.1)) (option_and_then dims_of (items_of found.0))
@@ -198,7 +201,9 @@ subroutine_of p = option_map (heading.Subroutine p.0) (dummies_of p.1)
 
 -- RESULT ( name ), or nothing
 abbrev pub result_name : Text → Option Word
-result_name ts = option_and_then (λ inside. option_and_then (λ p. option_and_then (λ rest. nothing_more p.0 rest) (behind mark.Close p.1)) (behind_name inside))
+result_name ts =
+    option_and_then
+    (λ inside. option_and_then (λ p. option_and_then (λ rest. nothing_more p.0 rest) (behind mark.Close p.1)) (behind_name inside))
     (option_and_then (behind mark.Open) (behind_word (codes "result") ts))
 
 abbrev pub result_of : Text → Option (Option Word)

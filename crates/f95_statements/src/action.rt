@@ -4,9 +4,12 @@ ghost use Rattle.std.specs.Prelude.{◌≡◌, [], ◌∷◌, IfOk, option_map, 
 ghost use Rattle.f95_expressions.specs.Machine.{collected, within, expression_of, bracket, row};
 ghost use Rattle.f95_parts.specs.Parts.{reference_of, name_of, argument_of, allocation_of, header_of, assignment_of};
 ghost use Rattle.f95_parts.specs.Views.{nothing_more, name_at_end, at_end, behind_literal};
-ghost use Rattle.f95_statements.specs.Actions.{whole_bracket, only, conditioned, headed, listed, listed_behind, assigned, behind_unit, arguments_of, call_of, allocate_of, deallocate_of, print_of, write_of, read_of, read_unit, stop_code, stop_of, action_by, where_of, forall_of, blocked, action_of};
+ghost use Rattle.f95_statements.specs.Actions.{whole_bracket, only, conditioned, headed, listed, listed_behind, assigned};
+ghost use Rattle.f95_statements.specs.Actions.{behind_unit, arguments_of, call_of, allocate_of, deallocate_of, print_of, write_of};
+ghost use Rattle.f95_statements.specs.Actions.{read_of, read_unit, stop_code, stop_of, action_by, where_of, forall_of, blocked};
+ghost use Rattle.f95_statements.specs.Actions.{action_of};
 
-use a95_base::{Bytes, Stack};
+use a95_base::{SharedBytes, Stack};
 use f95_expressions::{Closed, Field, bracket, expression_of, row, within};
 use f95_parts::{
     Part, assignment_of, behind, behind_keyword, behind_name, behind_star, collected, header_of,
@@ -16,7 +19,7 @@ use f95_tree::{
     Action, ActionWord, Argument, Assignment, BlockWord, Expression, Header, Keyword, Literal,
     Punctuation, Terminal,
 };
-use sqlite_items::Items;
+use sqlite_items::{Boxed, Items};
 use std::alloc::{AllocError, Global};
 
 /// The fields in brackets with nothing behind them.
@@ -35,6 +38,7 @@ pub fn whole_bracket(
             if is_nil(rest) {
                 Ok(Some(fields))
             } else {
+                drop(fields);
                 Ok(None)
             }
         }
@@ -45,17 +49,27 @@ pub fn only(fields: Stack<Field>) -> Option<Field>
     ensures { result ≡ only fields }
 {
     let mut fields = fields;
-    let field = fields.pop()?;
+    let Some(field) = fields.pop() else {
+        drop(fields);
+        return None;
+    };
     match fields.top() {
-        None => Some(field),
-        Some(_) => None,
+        None => {
+            drop(fields);
+            Some(field)
+        }
+        Some(_) => {
+            drop(fields);
+            drop(field);
+            None
+        }
     }
 }
 
 /// An expression in brackets, and what stands behind them.
 #[derive(Drop)]
 pub struct Condition<'a> {
-    pub expression: Expression,
+    pub expression: Boxed<Expression>,
     pub rest: &'a [Terminal],
 }
 
@@ -78,7 +92,10 @@ pub fn conditioned(
         None => Ok(None),
         Some(Closed { fields, rest }) => match only_expression(fields) {
             None => Ok(None),
-            Some(expression) => Ok(Some(Condition { expression, rest })),
+            Some(expression) => {
+                let expression = Boxed::new(alloc, expression)?;
+                Ok(Some(Condition { expression, rest }))
+            }
         },
     }
 }
@@ -86,7 +103,7 @@ pub fn conditioned(
 /// The header of a FORALL, and what stands behind it.
 #[derive(Drop)]
 pub struct HeaderAt<'a> {
-    pub header: Header,
+    pub header: Boxed<Header>,
     pub rest: &'a [Terminal],
 }
 
@@ -100,7 +117,10 @@ pub fn headed(alloc: Global, terminals: &[Terminal]) -> Result<Option<HeaderAt<'
         None => Ok(None),
         Some(Closed { fields, rest }) => match header_of(alloc, fields)? {
             None => Ok(None),
-            Some(header) => Ok(Some(HeaderAt { header, rest })),
+            Some(header) => {
+                let header = Boxed::new(alloc, header)?;
+                Ok(Some(HeaderAt { header, rest }))
+            }
         },
     }
 }
@@ -145,7 +165,10 @@ fn listed_behind<P: Part>(
     }
 }
 
-pub fn assigned(alloc: Global, terminals: &[Terminal]) -> Result<Option<Assignment>, AllocError>
+pub fn assigned(
+    alloc: Global,
+    terminals: &[Terminal],
+) -> Result<Option<Boxed<Assignment>>, AllocError>
     ensures { IfOk result (λ assignment. assignment ≡ assigned terminals.now) }
 {
     let Some(fields) = row(alloc, terminals)? else {
@@ -153,7 +176,10 @@ pub fn assigned(alloc: Global, terminals: &[Terminal]) -> Result<Option<Assignme
     };
     match only(fields) {
         None => Ok(None),
-        Some(field) => Ok(assignment_of(field)),
+        Some(field) => match assignment_of(field) {
+            None => Ok(None),
+            Some(assignment) => Ok(Some(Boxed::new(alloc, assignment)?)),
+        },
     }
 }
 
@@ -171,14 +197,17 @@ fn behind_unit(terminals: &[Terminal]) -> Option<&[Terminal]>
 fn arguments_of(
     alloc: Global,
     terminals: &[Terminal],
-) -> Result<Option<Items<Argument>>, AllocError>
+) -> Result<Option<Boxed<Items<Argument>>>, AllocError>
     ensures { IfOk result (λ arguments. arguments ≡ arguments_of terminals.now) }
 {
     let Some(fields) = whole_bracket(alloc, terminals)? else {
         return Ok(None);
     };
     let fields = within(fields)?;
-    collected(alloc, fields)
+    match collected(alloc, fields)? {
+        None => Ok(None),
+        Some(arguments) => Ok(Some(Boxed::new(alloc, arguments)?)),
+    }
 }
 
 fn call_of(alloc: Global, terminals: &[Terminal]) -> Result<Option<Action>, AllocError>
@@ -187,13 +216,20 @@ fn call_of(alloc: Global, terminals: &[Terminal]) -> Result<Option<Action>, Allo
     let Some(named) = behind_name(terminals) else {
         return Ok(None);
     };
-    let name = named.name.copy(alloc)?;
+    let name = named.name.share()?;
     if is_nil(named.rest) {
         return Ok(Some(Action::Call(name, None)));
     }
-    match arguments_of(alloc, named.rest)? {
-        None => Ok(None),
-        Some(arguments) => Ok(Some(Action::Call(name, Some(arguments)))),
+    match arguments_of(alloc, named.rest) {
+        Ok(Some(arguments)) => Ok(Some(Action::Call(name, Some(arguments)))),
+        Ok(None) => {
+            drop(name);
+            Ok(None)
+        }
+        Err(error) => {
+            drop(name);
+            Err(error)
+        }
     }
 }
 
@@ -270,12 +306,12 @@ fn read_of(alloc: Global, terminals: &[Terminal]) -> Result<Option<Action>, Allo
 }
 
 /// A number or a text.
-fn stop_code(alloc: Global, literal: &Literal) -> Result<Option<Literal>, AllocError>
+fn stop_code(literal: &Literal) -> Result<Option<Literal>, AllocError>
     ensures { IfOk result (λ code. code ≡ stop_code literal.now) }
 {
     match literal {
         Literal::Number(number) => Ok(Some(Literal::Number(*number))),
-        Literal::Text(text) => Ok(Some(Literal::Text(text.copy(alloc)?))),
+        Literal::Text(text) => Ok(Some(Literal::Text(text.share()?))),
         Literal::Logical(_) => Ok(None),
     }
 }
@@ -291,7 +327,7 @@ fn literal_at_end(terminals: &[Terminal]) -> Option<&Literal>
     }
 }
 
-fn stop_of(alloc: Global, terminals: &[Terminal]) -> Result<Option<Action>, AllocError>
+fn stop_of(terminals: &[Terminal]) -> Result<Option<Action>, AllocError>
     ensures { IfOk result (λ action. action ≡ stop_of terminals.now) }
 {
     if is_nil(terminals) {
@@ -300,17 +336,14 @@ fn stop_of(alloc: Global, terminals: &[Terminal]) -> Result<Option<Action>, Allo
     let Some(literal) = literal_at_end(terminals) else {
         return Ok(None);
     };
-    match stop_code(alloc, literal)? {
+    match stop_code(literal)? {
         None => Ok(None),
         Some(code) => Ok(Some(Action::Stop(Some(code)))),
     }
 }
 
 /// A name, or nothing.
-pub fn name_at_end(
-    alloc: Global,
-    terminals: &[Terminal],
-) -> Result<Option<Option<Bytes>>, AllocError>
+pub fn name_at_end(terminals: &[Terminal]) -> Result<Option<Option<SharedBytes>>, AllocError>
     ensures { IfOk result (λ name. name ≡ name_at_end terminals.now) }
 {
     if is_nil(terminals) {
@@ -320,7 +353,7 @@ pub fn name_at_end(
         return Ok(None);
     };
     if is_nil(named.rest) {
-        let name = named.name.copy(alloc)?;
+        let name = named.name.share()?;
         Ok(Some(Some(name)))
     } else {
         Ok(None)
@@ -333,23 +366,24 @@ fn nothing_more(action: Action, terminals: &[Terminal]) -> Option<Action>
     if is_nil(terminals) {
         Some(action)
     } else {
+        drop(action);
         None
     }
 }
 
-fn exit_of(alloc: Global, terminals: &[Terminal]) -> Result<Option<Action>, AllocError>
+fn exit_of(terminals: &[Terminal]) -> Result<Option<Action>, AllocError>
     ensures { IfOk result (λ action. action ≡ option_map Action.Exit (name_at_end terminals.now)) }
 {
-    match name_at_end(alloc, terminals)? {
+    match name_at_end(terminals)? {
         None => Ok(None),
         Some(name) => Ok(Some(Action::Exit(name))),
     }
 }
 
-fn cycle_of(alloc: Global, terminals: &[Terminal]) -> Result<Option<Action>, AllocError>
+fn cycle_of(terminals: &[Terminal]) -> Result<Option<Action>, AllocError>
     ensures { IfOk result (λ action. action ≡ option_map Action.Cycle (name_at_end terminals.now)) }
 {
-    match name_at_end(alloc, terminals)? {
+    match name_at_end(terminals)? {
         None => Ok(None),
         Some(name) => Ok(Some(Action::Cycle(name))),
     }
@@ -369,11 +403,11 @@ fn action_by(
         ActionWord::Print => print_of(alloc, terminals),
         ActionWord::Write => write_of(alloc, terminals),
         ActionWord::Read => read_of(alloc, terminals),
-        ActionWord::Stop => stop_of(alloc, terminals),
+        ActionWord::Stop => stop_of(terminals),
         ActionWord::Return => Ok(nothing_more(Action::Return, terminals)),
         ActionWord::Continue => Ok(nothing_more(Action::Continue, terminals)),
-        ActionWord::Exit => exit_of(alloc, terminals),
-        ActionWord::Cycle => cycle_of(alloc, terminals),
+        ActionWord::Exit => exit_of(terminals),
+        ActionWord::Cycle => cycle_of(terminals),
     }
 }
 
@@ -383,9 +417,16 @@ fn where_of(alloc: Global, terminals: &[Terminal]) -> Result<Option<Action>, All
     let Some(Condition { expression, rest }) = conditioned(alloc, terminals)? else {
         return Ok(None);
     };
-    match assigned(alloc, rest)? {
-        None => Ok(None),
-        Some(assignment) => Ok(Some(Action::Where(expression, assignment))),
+    match assigned(alloc, rest) {
+        Ok(Some(assignment)) => Ok(Some(Action::Where(expression, assignment))),
+        Ok(None) => {
+            drop(expression);
+            Ok(None)
+        }
+        Err(error) => {
+            drop(expression);
+            Err(error)
+        }
     }
 }
 
@@ -395,9 +436,16 @@ fn forall_of(alloc: Global, terminals: &[Terminal]) -> Result<Option<Action>, Al
     let Some(HeaderAt { header, rest }) = headed(alloc, terminals)? else {
         return Ok(None);
     };
-    match assigned(alloc, rest)? {
-        None => Ok(None),
-        Some(assignment) => Ok(Some(Action::Forall(header, assignment))),
+    match assigned(alloc, rest) {
+        Ok(Some(assignment)) => Ok(Some(Action::Forall(header, assignment))),
+        Ok(None) => {
+            drop(header);
+            Ok(None)
+        }
+        Err(error) => {
+            drop(header);
+            Err(error)
+        }
     }
 }
 

@@ -4,7 +4,10 @@ ghost use Rattle.std.specs.Prelude.{◌≡◌, [], ◌∷◌, IfOk, option_map, 
 ghost use Rattle.f95_expressions.specs.Machine.{collected, bracket, row, items_of};
 ghost use Rattle.f95_parts.specs.Parts.{entity_of, dims_of};
 ghost use Rattle.f95_statements.specs.Actions.{only};
-ghost use Rattle.f95_statements.specs.Declarations.{keyed_of, given_length, given_in, behind_len, behind_any, length_inside, as_number, starred_length, length_at, type_of, intent_named, behind_both, intent_at, one_word, intent_of, dimension_of, attribute_named, next_attribute, attributes_of, entities_of, no_initials, bare, declared, declaration_of};
+ghost use Rattle.f95_statements.specs.Declarations.{keyed_of, given_length, given_in, behind_len, behind_any, length_inside};
+ghost use Rattle.f95_statements.specs.Declarations.{as_number, starred_length, length_at, type_of, intent_named, behind_both};
+ghost use Rattle.f95_statements.specs.Declarations.{intent_at, one_word, intent_of, dimension_of, attribute_named, next_attribute};
+ghost use Rattle.f95_statements.specs.Declarations.{attributes_of, entities_of, no_initials, bare, declared, declaration_of};
 
 use crate::action::only;
 use a95_base::Stack;
@@ -28,11 +31,9 @@ fn keyed_of(left: Option<Expression>) -> Option<bool>
         None => Some(false),
         Some(left) => {
             let name = whole(left)?;
-            if is(b"len", name.as_slice()) {
-                Some(true)
-            } else {
-                None
-            }
+            let is_len = is(b"len", name.as_slice());
+            drop(name);
+            if is_len { Some(true) } else { None }
         }
     }
 }
@@ -41,7 +42,10 @@ fn given_length(field: Field) -> Option<Length>
     ensures { result ≡ given_length field }
 {
     let Field { left, spread } = field;
-    let keyed = keyed_of(left)?;
+    let Some(keyed) = keyed_of(left) else {
+        drop(spread);
+        return None;
+    };
     let length = spread_expression(spread)?;
     Some(Length::Given(keyed, length))
 }
@@ -357,6 +361,8 @@ fn bare(alloc: Global, of: TypeSpec, entities: Items<Entity>) -> Option<Declarat
             entities,
         })
     } else {
+        drop(of);
+        drop(entities);
         None
     }
 }
@@ -368,9 +374,16 @@ fn plain_declaration(
 ) -> Result<Option<Declaration>, AllocError>
     ensures { IfOk result (λ declaration. declaration ≡ option_and_then (bare of) (entities_of terminals.now)) }
 {
-    match entities_of(alloc, terminals)? {
-        None => Ok(None),
-        Some(entities) => Ok(bare(alloc, of, entities)),
+    match entities_of(alloc, terminals) {
+        Ok(Some(entities)) => Ok(bare(alloc, of, entities)),
+        Ok(None) => {
+            drop(of);
+            Ok(None)
+        }
+        Err(error) => {
+            drop(of);
+            Err(error)
+        }
     }
 }
 
@@ -382,8 +395,13 @@ pub fn declaration_of(
 ) -> Result<Option<Declaration>, AllocError>
     ensures { IfOk result (λ declaration. declaration ≡ declaration_of of terminals.now) }
 {
-    let Gathered { attributes, rest } = attributes_of(alloc, terminals)?;
-    declared(alloc, of, attributes, rest)
+    match attributes_of(alloc, terminals) {
+        Ok(Gathered { attributes, rest }) => declared(alloc, of, attributes, rest),
+        Err(error) => {
+            drop(of);
+            Err(error)
+        }
+    }
 }
 
 fn declared(
@@ -396,17 +414,33 @@ fn declared(
 {
     let Some(list) = behind(Punctuation::DoubleColon, rest) else {
         return match attributes.top() {
-            None => plain_declaration(alloc, of, rest),
-            Some(_) => Ok(None),
+            None => {
+                drop(attributes);
+                plain_declaration(alloc, of, rest)
+            }
+            Some(_) => {
+                drop(of);
+                drop(attributes);
+                Ok(None)
+            }
         };
     };
-    match entities_of(alloc, list)? {
-        None => Ok(None),
-        Some(entities) => Ok(Some(Declaration {
+    match entities_of(alloc, list) {
+        Ok(Some(entities)) => Ok(Some(Declaration {
             of,
             attributes: attributes.into_reversed(),
             colons: true,
             entities,
         })),
+        Ok(None) => {
+            drop(of);
+            drop(attributes);
+            Ok(None)
+        }
+        Err(error) => {
+            drop(of);
+            drop(attributes);
+            Err(error)
+        }
     }
 }

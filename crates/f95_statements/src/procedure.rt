@@ -5,11 +5,14 @@ ghost use Rattle.f95_tree.specs.WellFormed.{distinct, is_among, prefix_kind, wel
 ghost use Rattle.f95_expressions.specs.Machine.{bracket};
 ghost use Rattle.f95_parts.specs.Views.{behind_keyword, nothing_more};
 ghost use Rattle.f95_statements.specs.Actions.{whole_bracket};
-ghost use Rattle.f95_statements.specs.Declarations.{names_in, dummies_of, subroutine_of, result_name, result_of, function_in, function_of, heading_by, prefix_word, as_prefix, prefixes_of, next_prefix, kept, procedure, headed_procedure, procedure_behind, typed_procedure, procedure_keyed, procedure_from, procedure_of, is_keyed, typed_form};
+ghost use Rattle.f95_statements.specs.Declarations.{names_in, dummies_of, subroutine_of, result_name, result_of, function_in};
+ghost use Rattle.f95_statements.specs.Declarations.{function_of, heading_by, prefix_word, as_prefix, prefixes_of, next_prefix};
+ghost use Rattle.f95_statements.specs.Declarations.{kept, procedure, headed_procedure, procedure_behind, typed_procedure};
+ghost use Rattle.f95_statements.specs.Declarations.{procedure_keyed, procedure_from, procedure_of, is_keyed, typed_form};
 
 use crate::action::whole_bracket;
 use crate::declaration::{Typed, declaration_of, type_of};
-use a95_base::{Bytes, Stack};
+use a95_base::{SharedBytes, Stack};
 use f95_expressions::{Closed, Field, bracket, within};
 use f95_parts::{
     Keyed, Named, behind, behind_keyword, behind_name, behind_word, collected, is_nil, parted,
@@ -18,10 +21,10 @@ use f95_tree::{
     Form, Heading, Keyword, Prefix, PrefixWord, Procedure, Punctuation, Terminal, UnitForm,
     UnitWord,
 };
-use sqlite_items::Items;
+use sqlite_items::{Boxed, Items};
 use std::alloc::{AllocError, Global};
 
-fn names_in(alloc: Global, fields: Stack<Field>) -> Result<Option<Items<Bytes>>, AllocError>
+fn names_in(alloc: Global, fields: Stack<Field>) -> Result<Option<Items<SharedBytes>>, AllocError>
     ensures { IfOk result (λ names. names ≡ names_in fields) }
 {
     let fields = within(fields)?;
@@ -31,7 +34,7 @@ fn names_in(alloc: Global, fields: Stack<Field>) -> Result<Option<Items<Bytes>>,
 fn dummies_of(
     alloc: Global,
     terminals: &[Terminal],
-) -> Result<Option<Option<Items<Bytes>>>, AllocError>
+) -> Result<Option<Option<Items<SharedBytes>>>, AllocError>
     ensures { IfOk result (λ dummies. dummies ≡ dummies_of terminals.now) }
 {
     if is_nil(terminals) {
@@ -49,15 +52,22 @@ fn dummies_of(
 fn subroutine_of(alloc: Global, named: Named<'_>) -> Result<Option<Heading>, AllocError>
     ensures { IfOk result (λ heading. heading ≡ subroutine_of (named.entry.name.now, named.entry.rest.now)) }
 {
-    let name = named.name.copy(alloc)?;
-    match dummies_of(alloc, named.rest)? {
-        None => Ok(None),
-        Some(dummies) => Ok(Some(Heading::Subroutine(name, dummies))),
+    let name = named.name.share()?;
+    match dummies_of(alloc, named.rest) {
+        Ok(Some(dummies)) => Ok(Some(Heading::Subroutine(name, dummies))),
+        Ok(None) => {
+            drop(name);
+            Ok(None)
+        }
+        Err(error) => {
+            drop(name);
+            Err(error)
+        }
     }
 }
 
 /// The name in `RESULT ( name )`.
-fn result_name(terminals: &[Terminal]) -> Option<&Bytes>
+fn result_name(terminals: &[Terminal]) -> Option<&SharedBytes>
     ensures { option_map (λ name. name.now) result ≡ result_name terminals.now }
 {
     let open = behind_word(b"result", terminals)?;
@@ -67,7 +77,7 @@ fn result_name(terminals: &[Terminal]) -> Option<&Bytes>
     if is_nil(rest) { Some(named.name) } else { None }
 }
 
-fn result_of(alloc: Global, terminals: &[Terminal]) -> Result<Option<Option<Bytes>>, AllocError>
+fn result_of(terminals: &[Terminal]) -> Result<Option<Option<SharedBytes>>, AllocError>
     ensures { IfOk result (λ name. name ≡ result_of terminals.now) }
 {
     if is_nil(terminals) {
@@ -76,8 +86,26 @@ fn result_of(alloc: Global, terminals: &[Terminal]) -> Result<Option<Option<Byte
     match result_name(terminals) {
         None => Ok(None),
         Some(name) => {
-            let name = name.copy(alloc)?;
+            let name = name.share()?;
             Ok(Some(Some(name)))
+        }
+    }
+}
+
+/// A function's heading, of its parts.
+fn function_heading(
+    name: &SharedBytes,
+    dummies: Items<SharedBytes>,
+    outcome: Option<SharedBytes>,
+) -> Result<Heading, AllocError>
+    ensures { IfOk result (λ heading. heading ≡ Heading.Function name.now dummies outcome) }
+{
+    match name.share() {
+        Ok(name) => Ok(Heading::Function(name, dummies, outcome)),
+        Err(error) => {
+            drop(dummies);
+            drop(outcome);
+            Err(error)
         }
     }
 }
@@ -94,11 +122,18 @@ fn function_of(alloc: Global, named: Named<'_>) -> Result<Option<Heading>, Alloc
     let Some(dummies) = names_in(alloc, fields)? else {
         return Ok(None);
     };
-    match result_of(alloc, rest)? {
-        None => Ok(None),
-        Some(outcome) => {
-            let name = named.name.copy(alloc)?;
-            Ok(Some(Heading::Function(name, dummies, outcome)))
+    match result_of(rest) {
+        Ok(Some(outcome)) => {
+            let heading = function_heading(named.name, dummies, outcome)?;
+            Ok(Some(heading))
+        }
+        Ok(None) => {
+            drop(dummies);
+            Ok(None)
+        }
+        Err(error) => {
+            drop(dummies);
+            Err(error)
         }
     }
 }
@@ -171,7 +206,10 @@ fn prefixes_of<'a>(
     let mut prefixes = prefixes;
     let mut rest = terminals;
     'taking: while let Some(next) = next_prefix(rest) {
-        prefixes.push(next.prefix)?;
+        if let Err(error) = prefixes.push(next.prefix) {
+            drop(prefixes);
+            return Err(error);
+        }
         rest = next.rest;
     }
     Ok(Prefixed { prefixes, rest })
@@ -241,6 +279,8 @@ fn kept(prefixes: Items<Prefix>, heading: Heading) -> Option<Procedure>
     if is_kept(prefixes.as_slice(), &heading) {
         Some(Procedure { prefixes, heading })
     } else {
+        drop(prefixes);
+        drop(heading);
         None
     }
 }
@@ -254,9 +294,16 @@ fn headed(
 ) -> Result<Option<Procedure>, AllocError>
     ensures { IfOk result (λ p. p ≡ option_and_then (λ h. kept (procedure (reverse prefixes) h)) (heading_by word rest.now)) }
 {
-    match heading_by(alloc, word, rest)? {
-        None => Ok(None),
-        Some(heading) => Ok(kept(prefixes.into_reversed(), heading)),
+    match heading_by(alloc, word, rest) {
+        Ok(Some(heading)) => Ok(kept(prefixes.into_reversed(), heading)),
+        Ok(None) => {
+            drop(prefixes);
+            Ok(None)
+        }
+        Err(error) => {
+            drop(prefixes);
+            Err(error)
+        }
     }
 }
 
@@ -265,11 +312,15 @@ fn procedure_behind(alloc: Global, prefixed: Prefixed<'_>) -> Result<Option<Proc
 {
     let Prefixed { prefixes, rest } = prefixed;
     let Some(Keyed { keyword, rest }) = behind_keyword(rest) else {
+        drop(prefixes);
         return Ok(None);
     };
     match keyword {
         Keyword::Unit(word) => headed(alloc, prefixes, word, rest),
-        _ => Ok(None),
+        _ => {
+            drop(prefixes);
+            Ok(None)
+        }
     }
 }
 
@@ -283,7 +334,10 @@ fn typed_procedure(
 {
     let Typed { of, rest } = typed;
     let mut prefixes = prefixes;
-    prefixes.push(Prefix::Type(of))?;
+    if let Err(error) = prefixes.push(Prefix::Type(of)) {
+        drop(prefixes);
+        return Err(error);
+    }
     let prefixed = prefixes_of(prefixes, rest)?;
     procedure_behind(alloc, prefixed)
 }
@@ -293,15 +347,26 @@ fn procedure_from(alloc: Global, prefixed: Prefixed<'_>) -> Result<Option<Proced
 {
     let Prefixed { prefixes, rest } = prefixed;
     let Some(Keyed { keyword, rest }) = behind_keyword(rest) else {
+        drop(prefixes);
         return Ok(None);
     };
     match keyword {
-        Keyword::Type(word) => match type_of(alloc, word, rest)? {
-            None => Ok(None),
-            Some(typed) => typed_procedure(alloc, prefixes, typed),
+        Keyword::Type(word) => match type_of(alloc, word, rest) {
+            Ok(Some(typed)) => typed_procedure(alloc, prefixes, typed),
+            Ok(None) => {
+                drop(prefixes);
+                Ok(None)
+            }
+            Err(error) => {
+                drop(prefixes);
+                Err(error)
+            }
         },
         Keyword::Unit(word) => headed(alloc, prefixes, word, rest),
-        _ => Ok(None),
+        _ => {
+            drop(prefixes);
+            Ok(None)
+        }
     }
 }
 
@@ -320,12 +385,15 @@ pub fn typed_form(alloc: Global, typed: Typed<'_>) -> Result<Option<Form>, Alloc
     if behind_keyword(typed.rest).is_some() {
         return match typed_procedure(alloc, Stack::new(alloc), typed)? {
             None => Ok(None),
-            Some(procedure) => Ok(Some(Form::Unit(UnitForm::Procedure(procedure)))),
+            Some(procedure) => {
+                let procedure = Boxed::new(alloc, procedure)?;
+                Ok(Some(Form::Unit(UnitForm::Procedure(procedure))))
+            }
         };
     }
     let Typed { of, rest } = typed;
     match declaration_of(alloc, of, rest)? {
         None => Ok(None),
-        Some(declaration) => Ok(Some(Form::Declaration(declaration))),
+        Some(declaration) => Ok(Some(Form::Declaration(Boxed::new(alloc, declaration)?))),
     }
 }

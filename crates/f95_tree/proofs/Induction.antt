@@ -5,7 +5,8 @@ use Rattle.f95_tree.specs.declared.expression.Expression.{Expression, roll-Expre
 use Rattle.f95_tree.specs.declared.expression.Expression.TheVariants as e
 use Rattle.f95_tree.specs.declared.expression.Expression.TheOpen.{Expression-F, Item-F, Reference-F, Value-F}
 use Rattle.f95_tree.specs.declared.expression.Expression.TheOpen as layer
-use Rattle.f95_tree.specs.declared.expression.Expression.TheFolds.{ind-Expression, ind-Item, ind-Reference, ind-Value, map-Expression, map-Item, map-Reference, map-Value}
+use Rattle.f95_tree.specs.declared.expression.Expression.TheFolds.{ind-Expression, ind-Item, ind-Reference, ind-Value}
+use Rattle.f95_tree.specs.declared.expression.Expression.TheFolds.{map-Expression, map-Item, map-Reference, map-Value}
 use Rattle.f95_tree.specs.declared.expression.Reference.{Reference, roll-Reference}
 use Rattle.f95_tree.specs.declared.expression.Reference.TheVariants as r
 use Rattle.f95_tree.specs.declared.expression.Item.{Item, roll-Item}
@@ -34,9 +35,11 @@ pub record ByNode (P : Expression → Type 0) (Q : Item → Type 0) (R : Referen
   pub on_triplet : (a b c : Option Expression) → Maybe P a → Maybe P b → Maybe P c → Q (i.Triplet a b c)
   pub on_whole : (n : Word) → R (r.Whole n)
   pub on_items : (n : Word) (items : List Item) → Every Q items → R (r.Items n items)
-  pub on_substring : (n : Word) (items : List Item) (a b : Option Expression) → Every Q items → Maybe P a → Maybe P b → R (r.Substring n items a b)
+  pub on_substring : (n : Word) (items : List Item) (a b : Option Expression) → Every Q items → Maybe P a → Maybe P b →
+      R (r.Substring n items (a, b))
   pub on_one : (x : Expression) → P x → S (v.One x)
-  pub on_implied : (vs : List Value) (n : Word) (a b : Expression) (c : Option Expression) → Every S vs → P a → P b → Maybe P c → S (v.ImpliedDo vs n a b c)
+  pub on_implied : (vs : List Value) (n : Word) (a b : Expression) (c : Option Expression) → Every S vs → P a → P b → Maybe P c →
+      S (v.ImpliedDo vs n a b c)
 
 every_inside : {A : Type 0} (S : A → Type 0) (xs : List ((x : A) × S x)) → Every S (map (λ (p : (x : A) × S x). p.0) xs)
 every_inside S [] = tt
@@ -46,38 +49,65 @@ abbrev firsts : {A : Type 0} (S : A → Type 0) → List ((x : A) × S x) → Li
 firsts {A} S xs = map (λ (p : (x : A) × S x). p.0) xs
 
 module _ (P : Expression → Type 0) (Q : Item → Type 0) (R : Reference → Type 0) (S : Value → Type 0) (by : ByNode P Q R S) where
-  expression_layer : (y : Expression-F ((x : Expression) × P x) ((x : Item) × Q x) ((x : Reference) × R x) ((x : Value) × S x)) → P (roll-Expression (map-Expression ((x : Expression) × P x) ((x : Item) × Q x) ((x : Reference) × R x) ((x : Value) × S x) Expression Item Reference Value (λ p. p.0) (λ p. p.0) (λ p. p.0) (λ p. p.0) y))
+  expression_layer : (y : Expression-F ((x : Expression) × P x) ((x : Item) × Q x) ((x : Reference) × R x) ((x : Value) × S x)) →
+      P (roll-Expression
+      (map-Expression ((x : Expression) × P x) ((x : Item) × Q x) ((x : Reference) × R x) ((x : Value) × S x) Expression Item
+      Reference Value (λ p. p.0) (λ p. p.0) (λ p. p.0) (λ p. p.0) y))
   expression_layer (layer.Literal l) = subst P (sym (e.rolls-Literal l)) (by.on_literal l)
   expression_layer (layer.Reference x) = subst P (sym (e.rolls-Reference x.0)) (by.on_reference x.0 x.1)
   expression_layer (layer.Bracketed x) = subst P (sym (e.rolls-Bracketed x.0)) (by.on_bracketed x.0 x.1)
-  expression_layer (layer.Constructor vs) = subst P (sym (e.rolls-Constructor (firsts S vs))) (by.on_constructor (firsts S vs) (every_inside S vs))
+  expression_layer (layer.Constructor vs) = subst P (sym (e.rolls-Constructor (firsts S vs)))
+      (by.on_constructor (firsts S vs) (every_inside S vs))
   expression_layer (layer.Signed s x) = subst P (sym (e.rolls-Signed s x.0)) (by.on_signed s x.0 x.1)
   expression_layer (layer.Binary op a b) = subst P (sym (e.rolls-Binary op a.0 b.0)) (by.on_binary op a.0 b.0 a.1 b.1)
 
-  item_layer : (y : Item-F ((x : Expression) × P x) ((x : Item) × Q x) ((x : Reference) × R x) ((x : Value) × S x)) → Q (roll-Item (map-Item ((x : Expression) × P x) ((x : Item) × Q x) ((x : Reference) × R x) ((x : Value) × S x) Expression Item Reference Value (λ p. p.0) (λ p. p.0) (λ p. p.0) (λ p. p.0) y))
+  item_layer : (y : Item-F ((x : Expression) × P x) ((x : Item) × Q x) ((x : Reference) × R x) ((x : Value) × S x)) →
+      Q (roll-Item
+      (map-Item ((x : Expression) × P x) ((x : Item) × Q x) ((x : Reference) × R x) ((x : Value) × S x) Expression Item Reference
+      Value (λ p. p.0) (λ p. p.0) (λ p. p.0) (λ p. p.0) y))
   item_layer (layer.Plain x) = subst Q (sym (i.rolls-Plain x.0)) (by.on_plain x.0 x.1)
   item_layer (layer.Keyword n x) = subst Q (sym (i.rolls-Keyword n x.0)) (by.on_keyword n x.0 x.1)
   item_layer (layer.Triplet None None None) = subst Q (sym (i.rolls-Triplet None None None)) (by.on_triplet None None None tt tt tt)
-  item_layer (layer.Triplet None None (Some c)) = subst Q (sym (i.rolls-Triplet None None (Some c.0))) (by.on_triplet None None (Some c.0) tt tt c.1)
-  item_layer (layer.Triplet None (Some b) None) = subst Q (sym (i.rolls-Triplet None (Some b.0) None)) (by.on_triplet None (Some b.0) None tt b.1 tt)
-  item_layer (layer.Triplet None (Some b) (Some c)) = subst Q (sym (i.rolls-Triplet None (Some b.0) (Some c.0))) (by.on_triplet None (Some b.0) (Some c.0) tt b.1 c.1)
-  item_layer (layer.Triplet (Some a) None None) = subst Q (sym (i.rolls-Triplet (Some a.0) None None)) (by.on_triplet (Some a.0) None None a.1 tt tt)
-  item_layer (layer.Triplet (Some a) None (Some c)) = subst Q (sym (i.rolls-Triplet (Some a.0) None (Some c.0))) (by.on_triplet (Some a.0) None (Some c.0) a.1 tt c.1)
-  item_layer (layer.Triplet (Some a) (Some b) None) = subst Q (sym (i.rolls-Triplet (Some a.0) (Some b.0) None)) (by.on_triplet (Some a.0) (Some b.0) None a.1 b.1 tt)
-  item_layer (layer.Triplet (Some a) (Some b) (Some c)) = subst Q (sym (i.rolls-Triplet (Some a.0) (Some b.0) (Some c.0))) (by.on_triplet (Some a.0) (Some b.0) (Some c.0) a.1 b.1 c.1)
+  item_layer (layer.Triplet None None (Some c)) = subst Q (sym (i.rolls-Triplet None None (Some c.0)))
+      (by.on_triplet None None (Some c.0) tt tt c.1)
+  item_layer (layer.Triplet None (Some b) None) = subst Q (sym (i.rolls-Triplet None (Some b.0) None))
+      (by.on_triplet None (Some b.0) None tt b.1 tt)
+  item_layer (layer.Triplet None (Some b) (Some c)) = subst Q (sym (i.rolls-Triplet None (Some b.0) (Some c.0)))
+      (by.on_triplet None (Some b.0) (Some c.0) tt b.1 c.1)
+  item_layer (layer.Triplet (Some a) None None) = subst Q (sym (i.rolls-Triplet (Some a.0) None None))
+      (by.on_triplet (Some a.0) None None a.1 tt tt)
+  item_layer (layer.Triplet (Some a) None (Some c)) = subst Q (sym (i.rolls-Triplet (Some a.0) None (Some c.0)))
+      (by.on_triplet (Some a.0) None (Some c.0) a.1 tt c.1)
+  item_layer (layer.Triplet (Some a) (Some b) None) = subst Q (sym (i.rolls-Triplet (Some a.0) (Some b.0) None))
+      (by.on_triplet (Some a.0) (Some b.0) None a.1 b.1 tt)
+  item_layer (layer.Triplet (Some a) (Some b) (Some c)) = subst Q (sym (i.rolls-Triplet (Some a.0) (Some b.0) (Some c.0)))
+      (by.on_triplet (Some a.0) (Some b.0) (Some c.0) a.1 b.1 c.1)
 
-  reference_layer : (y : Reference-F ((x : Expression) × P x) ((x : Item) × Q x) ((x : Reference) × R x) ((x : Value) × S x)) → R (roll-Reference (map-Reference ((x : Expression) × P x) ((x : Item) × Q x) ((x : Reference) × R x) ((x : Value) × S x) Expression Item Reference Value (λ p. p.0) (λ p. p.0) (λ p. p.0) (λ p. p.0) y))
+  reference_layer : (y : Reference-F ((x : Expression) × P x) ((x : Item) × Q x) ((x : Reference) × R x) ((x : Value) × S x)) →
+      R (roll-Reference
+      (map-Reference ((x : Expression) × P x) ((x : Item) × Q x) ((x : Reference) × R x) ((x : Value) × S x) Expression Item
+      Reference Value (λ p. p.0) (λ p. p.0) (λ p. p.0) (λ p. p.0) y))
   reference_layer (layer.Whole n) = subst R (sym (r.rolls-Whole n)) (by.on_whole n)
-  reference_layer (layer.Items n xs) = subst R (sym (r.rolls-Items n (firsts Q xs))) (by.on_items n (firsts Q xs) (every_inside Q xs))
-  reference_layer (layer.Substring n xs None None) = subst R (sym (r.rolls-Substring n (firsts Q xs) None None)) (by.on_substring n (firsts Q xs) None None (every_inside Q xs) tt tt)
-  reference_layer (layer.Substring n xs None (Some b)) = subst R (sym (r.rolls-Substring n (firsts Q xs) None (Some b.0))) (by.on_substring n (firsts Q xs) None (Some b.0) (every_inside Q xs) tt b.1)
-  reference_layer (layer.Substring n xs (Some a) None) = subst R (sym (r.rolls-Substring n (firsts Q xs) (Some a.0) None)) (by.on_substring n (firsts Q xs) (Some a.0) None (every_inside Q xs) a.1 tt)
-  reference_layer (layer.Substring n xs (Some a) (Some b)) = subst R (sym (r.rolls-Substring n (firsts Q xs) (Some a.0) (Some b.0))) (by.on_substring n (firsts Q xs) (Some a.0) (Some b.0) (every_inside Q xs) a.1 b.1)
+  reference_layer (layer.Items n xs) = subst R (sym (r.rolls-Items n (firsts Q xs)))
+      (by.on_items n (firsts Q xs) (every_inside Q xs))
+  reference_layer (layer.Substring n xs (None, None)) = subst R (sym (r.rolls-Substring n (firsts Q xs) (None, None)))
+      (by.on_substring n (firsts Q xs) None None (every_inside Q xs) tt tt)
+  reference_layer (layer.Substring n xs (None, Some b)) = subst R (sym (r.rolls-Substring n (firsts Q xs) (None, Some b.0)))
+      (by.on_substring n (firsts Q xs) None (Some b.0) (every_inside Q xs) tt b.1)
+  reference_layer (layer.Substring n xs (Some a, None)) = subst R (sym (r.rolls-Substring n (firsts Q xs) (Some a.0, None)))
+      (by.on_substring n (firsts Q xs) (Some a.0) None (every_inside Q xs) a.1 tt)
+  reference_layer (layer.Substring n xs (Some a, Some b)) = subst R (sym (r.rolls-Substring n (firsts Q xs) (Some a.0, Some b.0)))
+      (by.on_substring n (firsts Q xs) (Some a.0) (Some b.0) (every_inside Q xs) a.1 b.1)
 
-  value_layer : (y : Value-F ((x : Expression) × P x) ((x : Item) × Q x) ((x : Reference) × R x) ((x : Value) × S x)) → S (roll-Value (map-Value ((x : Expression) × P x) ((x : Item) × Q x) ((x : Reference) × R x) ((x : Value) × S x) Expression Item Reference Value (λ p. p.0) (λ p. p.0) (λ p. p.0) (λ p. p.0) y))
+  value_layer : (y : Value-F ((x : Expression) × P x) ((x : Item) × Q x) ((x : Reference) × R x) ((x : Value) × S x)) →
+      S (roll-Value
+      (map-Value ((x : Expression) × P x) ((x : Item) × Q x) ((x : Reference) × R x) ((x : Value) × S x) Expression Item Reference
+      Value (λ p. p.0) (λ p. p.0) (λ p. p.0) (λ p. p.0) y))
   value_layer (layer.One x) = subst S (sym (v.rolls-One x.0)) (by.on_one x.0 x.1)
-  value_layer (layer.ImpliedDo vs n a b None) = subst S (sym (v.rolls-ImpliedDo (firsts S vs) n a.0 b.0 None)) (by.on_implied (firsts S vs) n a.0 b.0 None (every_inside S vs) a.1 b.1 tt)
-  value_layer (layer.ImpliedDo vs n a b (Some c)) = subst S (sym (v.rolls-ImpliedDo (firsts S vs) n a.0 b.0 (Some c.0))) (by.on_implied (firsts S vs) n a.0 b.0 (Some c.0) (every_inside S vs) a.1 b.1 c.1)
+  value_layer (layer.ImpliedDo vs n a b None) = subst S (sym (v.rolls-ImpliedDo (firsts S vs) n a.0 b.0 None))
+      (by.on_implied (firsts S vs) n a.0 b.0 None (every_inside S vs) a.1 b.1 tt)
+  value_layer (layer.ImpliedDo vs n a b (Some c)) = subst S (sym (v.rolls-ImpliedDo (firsts S vs) n a.0 b.0 (Some c.0)))
+      (by.on_implied (firsts S vs) n a.0 b.0 (Some c.0) (every_inside S vs) a.1 b.1 c.1)
 
   pub each_expression : (x : Expression) → P x
   each_expression = ind-Expression P Q R S
@@ -188,7 +218,7 @@ pub item_cases : (Q : Item → Type 0) → ((x : Expression) → Q (i.Plain x)) 
 item_cases Q plain keyword triplet = each_item Any Q Any Any (items Q plain keyword triplet)
 
 references : (R : Reference → Type 0) → ((n : Word) → R (r.Whole n)) → ((n : Word) (xs : List Item) → R (r.Items n xs)) →
-    ((n : Word) (xs : List Item) (a b : Option Expression) → R (r.Substring n xs a b)) → ByNode Any Any R Any
+    ((n : Word) (xs : List Item) (a b : Option Expression) → R (r.Substring n xs (a, b))) → ByNode Any Any R Any
 references R whole listed part = record {
   on_literal = λ _. tt;
   on_reference = λ _ _. tt;
@@ -207,5 +237,5 @@ references R whole listed part = record {
 }
 
 pub reference_cases : (R : Reference → Type 0) → ((n : Word) → R (r.Whole n)) → ((n : Word) (xs : List Item) → R (r.Items n xs)) →
-    ((n : Word) (xs : List Item) (a b : Option Expression) → R (r.Substring n xs a b)) → (x : Reference) → R x
+    ((n : Word) (xs : List Item) (a b : Option Expression) → R (r.Substring n xs (a, b))) → (x : Reference) → R x
 reference_cases R whole listed part = each_reference Any Any R Any (references R whole listed part)

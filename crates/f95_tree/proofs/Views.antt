@@ -3,7 +3,8 @@ use Rattle.std.proofs.Common.{◌≡◌, List, Option, sym, ◌∙◌, ap}
 use Rattle.f95_tree.specs.declared.expression.Expression.{Expression, out-Expression}
 use Rattle.f95_tree.specs.declared.expression.Expression.TheVariants as e
 use Rattle.f95_tree.specs.declared.expression.Expression.TheOpen as layer
-use Rattle.f95_tree.specs.declared.expression.Expression.TheViews.{out-roll-Expression, out-roll-Item, out-roll-Reference, out-roll-Value}
+use Rattle.f95_tree.specs.declared.expression.Expression.TheViews.{out-roll-Expression, out-roll-Item, out-roll-Reference}
+use Rattle.f95_tree.specs.declared.expression.Expression.TheViews.{out-roll-Value}
 use Rattle.f95_tree.specs.declared.expression.Reference.{Reference, out-Reference}
 use Rattle.f95_tree.specs.declared.expression.Reference.TheVariants as r
 use Rattle.f95_tree.specs.declared.expression.Item.{Item, out-Item}
@@ -39,8 +40,10 @@ seen-Plain x = ap out-Item (sym (i.rolls-Plain x)) ∙ out-roll-Item (layer.Plai
 pub seen-Keyword : (n : Word) (x : Expression) → out-Item (i.Keyword n x) ≡ layer.Keyword n x
 seen-Keyword n x = ap out-Item (sym (i.rolls-Keyword n x)) ∙ out-roll-Item (layer.Keyword n x)
 
-pub seen-Triplet : (lower upper stride : Option Expression) → out-Item (i.Triplet lower upper stride) ≡ layer.Triplet lower upper stride
-seen-Triplet lower upper stride = ap out-Item (sym (i.rolls-Triplet lower upper stride)) ∙ out-roll-Item (layer.Triplet lower upper stride)
+pub seen-Triplet : (lower upper stride : Option Expression) → out-Item (i.Triplet lower upper stride)
+    ≡ layer.Triplet lower upper stride
+seen-Triplet lower upper stride = ap out-Item (sym (i.rolls-Triplet lower upper stride))
+    ∙ out-roll-Item (layer.Triplet lower upper stride)
 
 pub seen-Whole : (n : Word) → out-Reference (r.Whole n) ≡ layer.Whole n
 seen-Whole n = ap out-Reference (sym (r.rolls-Whole n)) ∙ out-roll-Reference (layer.Whole n)
@@ -48,11 +51,14 @@ seen-Whole n = ap out-Reference (sym (r.rolls-Whole n)) ∙ out-roll-Reference (
 pub seen-Items : (n : Word) (items : List Item) → out-Reference (r.Items n items) ≡ layer.Items n items
 seen-Items n items = ap out-Reference (sym (r.rolls-Items n items)) ∙ out-roll-Reference (layer.Items n items)
 
-pub seen-Substring : (n : Word) (items : List Item) (lower upper : Option Expression) → out-Reference (r.Substring n items lower upper) ≡ layer.Substring n items lower upper
-seen-Substring n items lower upper = ap out-Reference (sym (r.rolls-Substring n items lower upper)) ∙ out-roll-Reference (layer.Substring n items lower upper)
+pub seen-Substring : (n : Word) (items : List Item) (lower upper : Option Expression) →
+    out-Reference (r.Substring n items (lower, upper)) ≡ layer.Substring n items (lower, upper)
+seen-Substring n items lower upper = ap out-Reference (sym (r.rolls-Substring n items (lower, upper)))
+    ∙ out-roll-Reference (layer.Substring n items (lower, upper))
 
 pub seen-One : (x : Expression) → out-Value (v.One x) ≡ layer.One x
 seen-One x = ap out-Value (sym (v.rolls-One x)) ∙ out-roll-Value (layer.One x)
 
-pub seen-ImpliedDo : (vs : List Value) (n : Word) (a b : Expression) (c : Option Expression) → out-Value (v.ImpliedDo vs n a b c) ≡ layer.ImpliedDo vs n a b c
+pub seen-ImpliedDo : (vs : List Value) (n : Word) (a b : Expression) (c : Option Expression) → out-Value (v.ImpliedDo vs n a b c)
+    ≡ layer.ImpliedDo vs n a b c
 seen-ImpliedDo vs n a b c = ap out-Value (sym (v.rolls-ImpliedDo vs n a b c)) ∙ out-roll-Value (layer.ImpliedDo vs n a b c)

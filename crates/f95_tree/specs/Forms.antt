@@ -124,7 +124,8 @@ maybe_dims None = []
 maybe_dims (Some dims) = dims_text dims
 
 abbrev pub entity_text : Entity → Text
-entity_text entity = terminal.Name entity.name ∷ (maybe_dims entity.dims ++ maybe_behind mark.Assign (maybe_expression entity.initial))
+entity_text entity = terminal.Name entity.name
+    ∷ (maybe_dims entity.dims ++ maybe_behind mark.Assign (maybe_expression entity.initial))
 
 abbrev pub colons_text : Bool → Text
 colons_text true = punctuated mark.DoubleColon []
@@ -132,7 +133,8 @@ colons_text false = []
 
 abbrev pub declaration_text : Declaration → Text
 declaration_text d =
-    type_text d.of ++ (behind_commas (map attribute_text d.attributes) ++ (colons_text d.colons ++ commas (map entity_text d.entities)))
+    type_text d.of
+    ++ (behind_commas (map attribute_text d.attributes) ++ (colons_text d.colons ++ commas (map entity_text d.entities)))
 
 -- Statements that may stand behind IF ( e ).
 
@@ -159,7 +161,9 @@ allocation_text a = terminal.Name a.name ∷ in_brackets (commas (map bound_text
 
 abbrev pub index_text : Index → Text
 index_text i =
-    terminal.Name i.name ∷ punctuated mark.Assign (expression i.lower ++ punctuated mark.Colon (expression i.upper ++ maybe_behind mark.Colon (maybe_expression i.stride)))
+    terminal.Name i.name
+    ∷ punctuated mark.Assign
+    (expression i.lower ++ punctuated mark.Colon (expression i.upper ++ maybe_behind mark.Colon (maybe_expression i.stride)))
 
 abbrev pub header_text : Header → Text
 header_text h = in_brackets (commas (map index_text h.indices) ++ maybe_behind mark.Comma (maybe_expression h.mask))
@@ -209,8 +213,10 @@ comma_text false = []
 abbrev pub control_text : Control → Text
 control_text control_of.Forever = []
 control_text (control_of.Counted comma n first last step) =
-    comma_text comma ++ terminal.Name n ∷ punctuated mark.Assign (expression first ++ punctuated mark.Comma (expression last ++ maybe_behind mark.Comma (maybe_expression step)))
-control_text (control_of.While comma condition) = comma_text comma ++ terminal.Name (codes "while") ∷ in_brackets (expression condition)
+    comma_text comma ++ terminal.Name n ∷ punctuated mark.Assign
+    (expression first ++ punctuated mark.Comma (expression last ++ maybe_behind mark.Comma (maybe_expression step)))
+control_text (control_of.While comma condition) = comma_text comma ++ terminal.Name (codes "while")
+    ∷ in_brackets (expression condition)
 
 -- END and a second word
 abbrev pub end_of : BlockWord → Text
@@ -223,11 +229,14 @@ maybe_mask (Some e) = in_brackets (expression e)
 abbrev pub block_text : BlockForm → Text
 block_text (block_of.If n condition) = label n ++ block_word block.If ∷ (in_brackets (expression condition) ++ named (codes "then"))
 block_text (block_of.ElseIf condition n) =
-    terminal.Keyword keyword.Else ∷ block_word block.If ∷ (in_brackets (expression condition) ++ terminal.Name (codes "then") ∷ maybe_named n)
+    terminal.Keyword keyword.Else ∷ block_word block.If
+    ∷ (in_brackets (expression condition) ++ terminal.Name (codes "then") ∷ maybe_named n)
 block_text (block_of.Else n) = terminal.Keyword keyword.Else ∷ maybe_named n
 block_text (block_of.EndIf n) = end_of block.If ++ maybe_named n
-block_text (block_of.Select n selector) = label n ++ block_word block.Select ∷ terminal.Keyword keyword.Case ∷ in_brackets (expression selector)
-block_text (block_of.Case ranges n) = terminal.Keyword keyword.Case ∷ (in_brackets (commas (map range_text ranges)) ++ maybe_named n)
+block_text (block_of.Select n selector) = label n ++ block_word block.Select ∷ terminal.Keyword keyword.Case
+    ∷ in_brackets (expression selector)
+block_text (block_of.Case ranges n) = terminal.Keyword keyword.Case
+    ∷ (in_brackets (commas (map range_text ranges)) ++ maybe_named n)
 block_text (block_of.CaseDefault n) = terminal.Keyword keyword.Case ∷ terminal.Name (codes "default") ∷ maybe_named n
 block_text (block_of.EndSelect n) = end_of block.Select ++ maybe_named n
 block_text (block_of.Do n control) = label n ++ block_word block.Do ∷ control_text control
@@ -263,7 +272,8 @@ result_text (Some n) = terminal.Name (codes "result") ∷ in_brackets (named n)
 
 abbrev pub heading_text : Heading → Text
 heading_text (heading_of.Subroutine n dummies) = unit_word unit.Subroutine ∷ terminal.Name n ∷ maybe_dummies dummies
-heading_text (heading_of.Function n dummies outcome) = unit_word unit.Function ∷ terminal.Name n ∷ (in_brackets (names dummies) ++ result_text outcome)
+heading_text (heading_of.Function n dummies outcome) = unit_word unit.Function ∷ terminal.Name n
+    ∷ (in_brackets (names dummies) ++ result_text outcome)
 
 abbrev pub only_text : Option (List Word) → Text
 only_text None = []

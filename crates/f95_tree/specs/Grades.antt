@@ -41,7 +41,7 @@ item_well_at (layer.Triplet lower upper stride) = maybe_well lower && (maybe_wel
 abbrev pub reference_well_at : Reference-F Grade Bool Bool Bool → Bool
 reference_well_at (layer.Whole _) = true
 reference_well_at (layer.Items _ items) = all items
-reference_well_at (layer.Substring _ items lower upper) = all items && (maybe_well lower && maybe_well upper)
+reference_well_at (layer.Substring _ items (lower, upper)) = all items && (maybe_well lower && maybe_well upper)
 
 abbrev pub value_well_at : Value-F Grade Bool Bool Bool → Bool
 value_well_at (layer.One e) = e.1

@@ -62,7 +62,7 @@ expression_at (layer.Binary op a b) = a ++ terminal.Operator op ∷ b
 abbrev pub reference_at : Reference-F Text Text Text Text → Text
 reference_at (layer.Whole n) = terminal.Name n ∷ []
 reference_at (layer.Items n items) = terminal.Name n ∷ in_brackets (commas items)
-reference_at (layer.Substring n items lower upper) =
+reference_at (layer.Substring n items (lower, upper)) =
     terminal.Name n ∷ (in_brackets (commas items) ++ in_brackets (maybe lower ++ punctuated mark.Colon (maybe upper)))
 
 abbrev pub item_at : Item-F Text Text Text Text → Text

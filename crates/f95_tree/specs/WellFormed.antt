@@ -87,7 +87,9 @@ abbrev pub well_colons : Declaration → Bool
 well_colons d = d.colons || (not (some d.attributes) && all (map (λ (entity : Entity). is_absent entity.initial) d.entities))
 
 abbrev pub well_declaration : Declaration → Bool
-well_declaration d = well_type d.of && (all (map well_attribute d.attributes) && (some d.entities && (all (map well_entity d.entities) && well_colons d)))
+well_declaration d =
+    well_type d.of
+    && (all (map well_attribute d.attributes) && (some d.entities && (all (map well_entity d.entities) && well_colons d)))
 
 -- Statements that may stand behind IF ( e ).
 
@@ -195,7 +197,8 @@ well_heading kinds (heading_of.Function _ _ _) = true
 
 abbrev pub well_procedure : Procedure → Bool
 well_procedure p =
-    all (map well_prefix p.prefixes) && (distinct (map prefix_kind p.prefixes) && well_heading (map prefix_kind p.prefixes) p.heading)
+    all (map well_prefix p.prefixes)
+    && (distinct (map prefix_kind p.prefixes) && well_heading (map prefix_kind p.prefixes) p.heading)
 
 abbrev pub well_unit : UnitForm → Bool
 well_unit (unit_of.Program _) = true

@@ -1,16 +1,16 @@
 //! Statements that may stand behind `IF ( e )`.
 
 use crate::expression::{Expression, Literal, Reference};
-use a95_base::Bytes;
-use sqlite_items::Items;
+use a95_base::SharedBytes;
+use sqlite_items::{Boxed, Items};
 
 #[derive(Drop)]
 pub enum Action {
-    Assignment(Assignment),
+    Assignment(Boxed<Assignment>),
     /// `CALL name`, or with brackets
-    Call(Bytes, Option<Items<Argument>>),
+    Call(SharedBytes, Option<Boxed<Items<Argument>>>),
     Allocate(Items<Allocation>),
-    Deallocate(Items<Bytes>),
+    Deallocate(Items<SharedBytes>),
     /// `PRINT *`
     Print(Items<Expression>),
     /// `WRITE ( * , * )`
@@ -23,12 +23,12 @@ pub enum Action {
     Stop(Option<Literal>),
     Return,
     Continue,
-    Exit(Option<Bytes>),
-    Cycle(Option<Bytes>),
+    Exit(Option<SharedBytes>),
+    Cycle(Option<SharedBytes>),
     /// `WHERE ( mask ) assignment`
-    Where(Expression, Assignment),
+    Where(Boxed<Expression>, Boxed<Assignment>),
     /// `FORALL header assignment`
-    Forall(Header, Assignment),
+    Forall(Boxed<Header>, Boxed<Assignment>),
 }
 
 /// `designator = e`
@@ -41,14 +41,14 @@ pub struct Assignment {
 /// `name = e`, or `e` alone
 #[derive(Drop)]
 pub struct Argument {
-    pub keyword: Option<Bytes>,
+    pub keyword: Option<SharedBytes>,
     pub value: Expression,
 }
 
 /// `name ( bound , bound )`
 #[derive(Drop)]
 pub struct Allocation {
-    pub name: Bytes,
+    pub name: SharedBytes,
     pub bounds: Items<Bound>,
 }
 
@@ -64,13 +64,13 @@ pub enum Bound {
 #[derive(Drop)]
 pub struct Header {
     pub indices: Items<Index>,
-    pub mask: Option<Expression>,
+    pub mask: Option<Boxed<Expression>>,
 }
 
 /// `name = lower : upper : stride`
 #[derive(Drop)]
 pub struct Index {
-    pub name: Bytes,
+    pub name: SharedBytes,
     pub lower: Expression,
     pub upper: Expression,
     pub stride: Option<Expression>,

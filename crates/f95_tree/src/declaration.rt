@@ -1,7 +1,7 @@
 //! Declarations of names.
 
 use crate::expression::Expression;
-use a95_base::Bytes;
+use a95_base::SharedBytes;
 use sqlite_items::Items;
 
 /// `type , attribute :: entity , entity`
@@ -55,7 +55,7 @@ pub enum Intent {
 /// `name ( dim , dim ) = e`
 #[derive(Drop)]
 pub struct Entity {
-    pub name: Bytes,
+    pub name: SharedBytes,
     pub dims: Option<Items<Dim>>,
     pub initial: Option<Expression>,
 }

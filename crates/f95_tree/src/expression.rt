@@ -1,13 +1,13 @@
 //! Expressions as they are written. Brackets are nodes.
 
 use crate::terminal::{Operator, Sign};
-use a95_base::Bytes;
+use a95_base::SharedBytes;
 use sqlite_items::{Boxed, Items};
 
 #[derive(Drop)]
 pub enum Literal {
     Number(i32),
-    Text(Bytes),
+    Text(SharedBytes),
     Logical(bool),
 }
 
@@ -29,11 +29,11 @@ pub enum Expression {
 #[derive(Drop)]
 pub enum Reference {
     /// `name`
-    Whole(Bytes),
+    Whole(SharedBytes),
     /// `name ( item , item )`, also with no item
-    Items(Bytes, Items<Item>),
+    Items(SharedBytes, Boxed<Items<Item>>),
     /// `name ( item , item ) ( lower : upper )`. A substring of a whole variable is an item: `name ( lower : upper )`.
-    Substring(Bytes, Items<Item>, Option<Boxed<Expression>>, Option<Boxed<Expression>>),
+    Substring(SharedBytes, Boxed<Items<Item>>, Boxed<(Option<Expression>, Option<Expression>)>),
 }
 
 /// What stands in the brackets behind a name.
@@ -42,7 +42,7 @@ pub enum Reference {
 pub enum Item {
     Plain(Expression),
     /// `name = e`
-    Keyword(Bytes, Expression),
+    Keyword(SharedBytes, Expression),
     /// `lower : upper` and `lower : upper : stride`
     Triplet(Option<Boxed<Expression>>, Option<Boxed<Expression>>, Option<Boxed<Expression>>),
 }
@@ -53,5 +53,11 @@ pub enum Item {
 pub enum Value {
     One(Expression),
     /// `( value , value , name = first , last , step )`
-    ImpliedDo(Items<Value>, Bytes, Boxed<Expression>, Boxed<Expression>, Option<Boxed<Expression>>),
+    ImpliedDo(
+        Boxed<Items<Value>>,
+        SharedBytes,
+        Boxed<Expression>,
+        Boxed<Expression>,
+        Option<Boxed<Expression>>,
+    ),
 }

@@ -4,33 +4,33 @@ use crate::action::{Action, Header};
 use crate::declaration::{Declaration, TypeSpec};
 use crate::expression::Expression;
 use crate::terminal::UnitWord;
-use a95_base::Bytes;
-use sqlite_items::Items;
+use a95_base::SharedBytes;
+use sqlite_items::{Boxed, Items};
 
 /// A statement by itself.
 #[derive(Drop)]
 pub enum Form {
     Unit(UnitForm),
-    Declaration(Declaration),
+    Declaration(Boxed<Declaration>),
     Block(BlockForm),
     Action(Action),
     /// `IF ( condition ) action`
-    If(Expression, Action),
+    If(Boxed<Expression>, Boxed<Action>),
 }
 
 /// What begins, parts and ends program units.
 #[derive(Drop)]
 pub enum UnitForm {
-    Program(Bytes),
-    Module(Bytes),
-    Procedure(Procedure),
+    Program(SharedBytes),
+    Module(SharedBytes),
+    Procedure(Boxed<Procedure>),
     /// `USE name`, or `USE name , ONLY :` with names
-    Use(Bytes, Option<Items<Bytes>>),
+    Use(SharedBytes, Option<Boxed<Items<SharedBytes>>>),
     ImplicitNone,
     Contains,
     End,
     /// `END` with a second word, and maybe a name
-    EndUnit(UnitWord, Option<Bytes>),
+    EndUnit(UnitWord, Option<SharedBytes>),
 }
 
 /// The statement that begins a procedure.
@@ -51,28 +51,28 @@ pub enum Prefix {
 #[derive(Drop)]
 pub enum Heading {
     /// `SUBROUTINE name`, or with brackets and the names of dummies
-    Subroutine(Bytes, Option<Items<Bytes>>),
+    Subroutine(SharedBytes, Option<Items<SharedBytes>>),
     /// `FUNCTION name ( dummies )`, maybe with `RESULT ( name )`
-    Function(Bytes, Items<Bytes>, Option<Bytes>),
+    Function(SharedBytes, Items<SharedBytes>, Option<SharedBytes>),
 }
 
 /// What begins, parts and ends blocks. The first name of IF, SELECT and DO is the one before the colon.
 #[derive(Drop)]
 pub enum BlockForm {
-    If(Option<Bytes>, Expression),
-    ElseIf(Expression, Option<Bytes>),
-    Else(Option<Bytes>),
-    EndIf(Option<Bytes>),
-    Select(Option<Bytes>, Expression),
-    Case(Items<CaseRange>, Option<Bytes>),
-    CaseDefault(Option<Bytes>),
-    EndSelect(Option<Bytes>),
-    Do(Option<Bytes>, Control),
-    EndDo(Option<Bytes>),
-    Where(Expression),
-    ElseWhere(Option<Expression>),
+    If(Option<SharedBytes>, Boxed<Expression>),
+    ElseIf(Boxed<Expression>, Option<SharedBytes>),
+    Else(Option<SharedBytes>),
+    EndIf(Option<SharedBytes>),
+    Select(Option<SharedBytes>, Boxed<Expression>),
+    Case(Boxed<Items<CaseRange>>, Option<SharedBytes>),
+    CaseDefault(Option<SharedBytes>),
+    EndSelect(Option<SharedBytes>),
+    Do(Option<SharedBytes>, Boxed<Control>),
+    EndDo(Option<SharedBytes>),
+    Where(Boxed<Expression>),
+    ElseWhere(Option<Boxed<Expression>>),
     EndWhere,
-    Forall(Header),
+    Forall(Boxed<Header>),
     EndForall,
 }
 
@@ -92,7 +92,7 @@ pub enum CaseRange {
 pub enum Control {
     Forever,
     /// `name = first , last , step`
-    Counted(bool, Bytes, Expression, Expression, Option<Expression>),
+    Counted(bool, SharedBytes, Boxed<Expression>, Boxed<Expression>, Option<Boxed<Expression>>),
     /// `WHILE ( condition )`
-    While(bool, Expression),
+    While(bool, Boxed<Expression>),
 }

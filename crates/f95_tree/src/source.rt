@@ -5,7 +5,7 @@ use crate::declaration::Declaration;
 use crate::expression::Expression;
 use crate::form::{CaseRange, Control, Procedure};
 use crate::terminal::UnitWord;
-use a95_base::{Bytes, Line};
+use a95_base::{Line, SharedBytes};
 use sqlite_items::{Boxed, Items};
 
 #[derive(Drop)]
@@ -17,7 +17,7 @@ pub struct Source {
 #[derive(Drop)]
 pub struct Module {
     pub line: Line,
-    pub name: Bytes,
+    pub name: SharedBytes,
     pub section: Section,
     /// Where CONTAINS stands, with what follows it.
     pub procedures: Option<(Line, Items<Subprogram>)>,
@@ -27,7 +27,7 @@ pub struct Module {
 #[derive(Drop)]
 pub struct Main {
     /// The PROGRAM statement, which may be absent.
-    pub opening: Option<(Line, Bytes)>,
+    pub opening: Option<(Line, SharedBytes)>,
     pub section: Section,
     pub body: Items<Statement>,
     pub procedures: Option<(Line, Items<Subprogram>)>,
@@ -47,7 +47,7 @@ pub struct Subprogram {
 #[derive(Drop)]
 pub struct Section {
     /// USE with the names of ONLY.
-    pub uses: Items<(Line, Bytes, Option<Items<Bytes>>)>,
+    pub uses: Items<(Line, SharedBytes, Option<Items<SharedBytes>>)>,
     /// Where IMPLICIT NONE stands.
     pub implicit: Option<Line>,
     pub declarations: Items<(Line, Declaration)>,
@@ -58,7 +58,7 @@ pub struct Section {
 pub struct Ending {
     pub line: Line,
     pub word: Option<UnitWord>,
-    pub name: Option<Bytes>,
+    pub name: Option<SharedBytes>,
 }
 
 #[cycle(statement)]
@@ -66,19 +66,19 @@ pub struct Ending {
 pub enum Statement {
     Action(Line, Action),
     /// `IF ( condition ) action`
-    If(Line, Expression, Action),
+    If(Line, Boxed<Expression>, Boxed<Action>),
     /// The IF statement with its name and condition, its body, each ELSE IF, ELSE, END IF.
     IfBlock(
         Line,
-        Option<Bytes>,
-        Expression,
+        Option<SharedBytes>,
+        Boxed<Expression>,
         Items<Statement>,
         Items<Branch>,
         Option<Boxed<Otherwise>>,
         Ending,
     ),
-    Select(Line, Option<Bytes>, Expression, Items<Case>, Ending),
-    Do(Line, Option<Bytes>, Control, Items<Statement>, Ending),
+    Select(Line, Option<SharedBytes>, Boxed<Expression>, Items<Case>, Ending),
+    Do(Line, Option<SharedBytes>, Control, Items<Statement>, Ending),
     Where(WhereBlock),
     /// FORALL with its header, its assignments, and the line of END FORALL.
     Forall(Line, Header, Items<(Line, Assignment)>, Line),
@@ -90,7 +90,7 @@ pub enum Statement {
 pub struct Branch {
     pub line: Line,
     pub condition: Expression,
-    pub name: Option<Bytes>,
+    pub name: Option<SharedBytes>,
     pub body: Items<Statement>,
 }
 
@@ -99,7 +99,7 @@ pub struct Branch {
 #[derive(Drop)]
 pub struct Otherwise {
     pub line: Line,
-    pub name: Option<Bytes>,
+    pub name: Option<SharedBytes>,
     pub body: Items<Statement>,
 }
 
@@ -109,7 +109,7 @@ pub struct Otherwise {
 pub struct Case {
     pub line: Line,
     pub ranges: Option<Items<CaseRange>>,
-    pub name: Option<Bytes>,
+    pub name: Option<SharedBytes>,
     pub body: Items<Statement>,
 }
 

@@ -1,13 +1,13 @@
 //! The terminal symbols of the grammar. A token stands for one of them, or for two where a word joins two keywords.
 
 use crate::expression::Literal;
-use a95_base::Bytes;
+use a95_base::SharedBytes;
 
 /// What a statement is spelled with.
 #[derive(Drop)]
 pub enum Terminal {
     /// A word that isn't reserved, in lower case.
-    Name(Bytes),
+    Name(SharedBytes),
     Keyword(Keyword),
     Literal(Literal),
     Operator(Operator),

@@ -1,5 +1,6 @@
 -- Declarations of one scope, and names of its host.
-use Rattle.std.proofs.Common.{◌≡◌, ℕ, Bool, true, false, not, ◌&&◌, ◌||◌, cond, List, [], ◌∷◌, ◌++◌, map, Option, Some, None, refl, sym, ap, subst, ◌∙◌, inl, inr, arith}
+use Rattle.std.proofs.Common.{◌≡◌, ℕ, Bool, true, false, not, ◌&&◌, ◌||◌, cond, List, [], ◌∷◌, ◌++◌, map, Option, Some, None, refl}
+use Rattle.std.proofs.Common.{sym, ap, subst, ◌∙◌, inl, inr, arith}
 use Rattle.std.specs.List.{list_any, filter, flat_map}
 use Rattle.std.specs.Option.{is_none}
 use Rattle.a95_base.specs.Lists.{Every, Pairwise, Member}
@@ -7,7 +8,8 @@ use Rattle.a95_base.proofs.Lists.{each_from_has, Member-append_left, Member-appe
 use Rattle.f95_tree.specs.Forms.{Word}
 use Rattle.intrinsic_table.specs.Finding.{is_word}
 use Rattle.names_types.specs.Keywords.{intrinsic_named}
-use Rattle.names_types.specs.Scopes.{Entry, Meaning, Meant, Scope, Sited, site, sited_from, entry_meaning, meant, own_names, entries, scopes, is_own, means_variable, meaning_in}
+use Rattle.names_types.specs.Scopes.{Entry, Meaning, Meant, Scope, Sited, site, sited_from, entry_meaning, meant, own_names}
+use Rattle.names_types.specs.Scopes.{entries, scopes, is_own, means_variable, meaning_in}
 use Rattle.names_types.specs.Rules.{site_line, declared_twice_on, is_declared_twice}
 use Rattle.names_types.specs.Laws.{IsOther, DeclaresEachOnce, EachDeclaredOnce, HostIsDeclared}
 

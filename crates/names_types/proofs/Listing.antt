@@ -3,11 +3,18 @@ use Rattle.std.proofs.Common.{ℕ, List, [], ◌∷◌, refl, sym, subst, inl, i
 use Rattle.a95_base.specs.declared.breaks.Break.{Break}
 use Rattle.a95_base.specs.Breaks.{AreBroken, broken_at, first_of}
 use Rattle.a95_base.specs.Lists.{Member}
-use Rattle.a95_base.specs.Rules.{declared_twice, undeclared, wrong_attributes, wrong_dummy, not_constant, constant_faults, rank_too_great, wrong_length, shape_too_large, unknown_use, host_variable, wrong_result, no_specification_expression}
+use Rattle.a95_base.specs.Rules.{declared_twice, undeclared, wrong_attributes, wrong_dummy, not_constant, constant_faults}
+use Rattle.a95_base.specs.Rules.{rank_too_great, wrong_length, shape_too_large, unknown_use, host_variable, wrong_result}
+use Rattle.a95_base.specs.Rules.{no_specification_expression}
 use Rattle.a95_base.proofs.First.{first_is_least}
 use Rattle.a95_base.proofs.Lists.{Member-append_left, Member-append_right, Member-append_cases, Member-map, Member-from_map}
 use Rattle.names_types.specs.Plain.{Source}
-use Rattle.names_types.specs.Rules.{declared_twice_on, undeclared_on, wrong_attributes_on, wrong_dummy_on, not_constant_on, constant_faults_on, rank_too_great_on, wrong_length_on, shape_too_large_on, unknown_use_on, host_variable_on, wrong_result_on, no_specification_on, anywhere, Breaks, is_declared_twice, is_undeclared_name, has_wrong_attributes, has_wrong_dummy, has_no_constant, has_constant_faults, has_great_rank, has_wrong_length_at, has_large_shape, has_unknown_use, names_host_variable, has_wrong_result, has_no_specification}
+use Rattle.names_types.specs.Rules.{declared_twice_on, undeclared_on, wrong_attributes_on, wrong_dummy_on, not_constant_on}
+use Rattle.names_types.specs.Rules.{constant_faults_on, rank_too_great_on, wrong_length_on, shape_too_large_on, unknown_use_on}
+use Rattle.names_types.specs.Rules.{host_variable_on, wrong_result_on, no_specification_on, anywhere, Breaks, is_declared_twice}
+use Rattle.names_types.specs.Rules.{is_undeclared_name, has_wrong_attributes, has_wrong_dummy, has_no_constant, has_constant_faults}
+use Rattle.names_types.specs.Rules.{has_great_rank, has_wrong_length_at, has_large_shape, has_unknown_use, names_host_variable}
+use Rattle.names_types.specs.Rules.{has_wrong_result, has_no_specification}
 use Rattle.names_types.specs.Listed.{Ruled, breaks_of_rule, breaks_of_rules, all_rules, breaks_of}
 use Rattle.names_types.specs.Laws.{ListedAreBroken, FirstIsLeast, NoneIsUnbroken}
 use Rattle.names_types.specs.View.{source_of}

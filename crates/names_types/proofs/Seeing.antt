@@ -6,7 +6,8 @@ use Rattle.f95_tree.specs.declared.expression.Expression.TheFolds.{fold-roll-Exp
 use Rattle.f95_tree.specs.declared.expression.Reference.TheVariants as r
 use Rattle.names_types.specs.Plain as plain
 use Rattle.names_types.specs.View.{AddItem, AddValue, expression_at, item_at, reference_at, value_at, expr_of, reference_of}
-use Rattle.names_types.specs.Nodes.{Literals, References, Brackets, Constructors, Signs, Operations, WholeNames, AppliedNames, Substrings}
+use Rattle.names_types.specs.Nodes.{Literals, References, Brackets, Constructors, Signs, Operations, WholeNames, AppliedNames}
+use Rattle.names_types.specs.Nodes.{Substrings}
 
 pub literals : Literals
 literals l = ap expr_of (sym (e.rolls-Literal l))
@@ -49,15 +50,15 @@ applied_names name items = ap reference_of (sym (r.rolls-Items name items))
     (layer.Items name items)
 
 pub substrings : Substrings
-substrings name items None None = ap reference_of (sym (r.rolls-Substring name items None None))
+substrings name items None None = ap reference_of (sym (r.rolls-Substring name items (None, None)))
     ∙ fold-roll-Reference plain.Expr AddItem plain.Reference AddValue expression_at item_at reference_at value_at
-    (layer.Substring name items None None)
-substrings name items None (Some upper) = ap reference_of (sym (r.rolls-Substring name items None (Some upper)))
+    (layer.Substring name items (None, None))
+substrings name items None (Some upper) = ap reference_of (sym (r.rolls-Substring name items (None, Some upper)))
     ∙ fold-roll-Reference plain.Expr AddItem plain.Reference AddValue expression_at item_at reference_at value_at
-    (layer.Substring name items None (Some upper))
-substrings name items (Some lower) None = ap reference_of (sym (r.rolls-Substring name items (Some lower) None))
+    (layer.Substring name items (None, Some upper))
+substrings name items (Some lower) None = ap reference_of (sym (r.rolls-Substring name items (Some lower, None)))
     ∙ fold-roll-Reference plain.Expr AddItem plain.Reference AddValue expression_at item_at reference_at value_at
-    (layer.Substring name items (Some lower) None)
-substrings name items (Some lower) (Some upper) = ap reference_of (sym (r.rolls-Substring name items (Some lower) (Some upper)))
+    (layer.Substring name items (Some lower, None))
+substrings name items (Some lower) (Some upper) = ap reference_of (sym (r.rolls-Substring name items (Some lower, Some upper)))
     ∙ fold-roll-Reference plain.Expr AddItem plain.Reference AddValue expression_at item_at reference_at value_at
-    (layer.Substring name items (Some lower) (Some upper))
+    (layer.Substring name items (Some lower, Some upper))

@@ -1,6 +1,7 @@
 -- Expressions whose value is known before a run: what they are built of, their kinds, and their values, by the operators of
 -- `constant_operators`.
-use Rattle.std.specs.Prelude.{ℕ, ℤ, pos, neg_ℤ, suc, int_le, unsigned_abs, ◌==◌, Bool, true, false, not, ◌&&◌, ◌||◌, if◌then◌else◌, List, [], ◌∷◌, fold, Option, Some, None, option_map}
+use Rattle.std.specs.Prelude.{ℕ, ℤ, pos, neg_ℤ, suc, int_le, unsigned_abs, ◌==◌, Bool, true, false, not, ◌&&◌, ◌||◌, if◌then◌else◌}
+use Rattle.std.specs.Prelude.{List, [], ◌∷◌, fold, Option, Some, None, option_map}
 use Rattle.std.specs.List.{list_any, list_all, find, filter_map}
 use Rattle.std.specs.Option.{is_some}
 use Rattle.a95_base.specs.declared.scalar.Scalar.{Scalar}
@@ -19,10 +20,13 @@ pub use Rattle.constant_operators.specs.declared.value.Worth.{Worth}
 pub use Rattle.constant_operators.specs.declared.value.Worth.TheVariants.{Is, Spoilt, Unknown}
 pub use Rattle.constant_operators.specs.declared.value.Valued.{Valued}
 pub use Rattle.constant_operators.specs.declared.value.Argument.{Argument}
-pub use Rattle.constant_operators.specs.Operators.{facts_of, valued_as, an_integer, a_truth, a_text, is_kind, only_if, then_option, integer_of, truth_of, text_of, within, integer_or_spoilt, text_or_spoilt, is_spoilt, with_worth, binary, signed, literal}
+pub use Rattle.constant_operators.specs.Operators.{facts_of, valued_as, an_integer, a_truth, a_text, is_kind, only_if, then_option}
+pub use Rattle.constant_operators.specs.Operators.{integer_of, truth_of, text_of, within, integer_or_spoilt, text_or_spoilt}
+pub use Rattle.constant_operators.specs.Operators.{is_spoilt, with_worth, binary, signed, literal}
 pub use Rattle.names_types.specs.declared.sense.Sense.{Sense}
 pub use Rattle.names_types.specs.declared.sense.Sense.TheVariants.{Names, NamesArray, NamesIntrinsic, NamesOther}
-use Rattle.names_types.specs.Plain.{Expr, Literal, Named, Bracketed, Constructor, Signed, Binary, Reference, Whole, Applied, Substring, Items, no_item, plain, keyword, triplet}
+use Rattle.names_types.specs.Plain.{Expr, Literal, Named, Bracketed, Constructor, Signed, Binary, Reference, Whole, Applied}
+use Rattle.names_types.specs.Plain.{Substring, Items, no_item, plain, keyword, triplet}
 use Rattle.names_types.specs.Keywords.{keyword_place}
 
 -- ---- references to intrinsics

@@ -1,5 +1,6 @@
 -- The place of an argument's keyword, and the intrinsic of a name.
-use Rattle.std.specs.Prelude.{ℕ, ◌+◌, ◌*◌, ◌-◌, ◌==◌, nat_le, Bool, ◌&&◌, if◌then◌else◌, List, [], ◌∷◌, ◌++◌, fold, Option, Some, None}
+use Rattle.std.specs.Prelude.{ℕ, ◌+◌, ◌*◌, ◌-◌, ◌==◌, nat_le, Bool, ◌&&◌, if◌then◌else◌, List, [], ◌∷◌, ◌++◌, fold, Option, Some}
+use Rattle.std.specs.Prelude.{None}
 use Rattle.std.specs.List.{list_all, position_from}
 use Rattle.f95_tree.specs.Forms.{Word}
 use Rattle.intrinsic_table.specs.declared.intrinsic.Intrinsic.{Intrinsic}

@@ -2,10 +2,14 @@
 use Rattle.std.specs.Prelude.{ℕ, List, [], ◌∷◌, ◌++◌, map}
 use Rattle.a95_base.specs.declared.breaks.Break.{Break}
 use Rattle.a95_base.specs.Breaks.{broken_at}
-use Rattle.a95_base.specs.Rules.{declared_twice, undeclared, wrong_attributes, wrong_dummy, not_constant, constant_faults, rank_too_great, wrong_length, shape_too_large, unknown_use, host_variable, wrong_result, no_specification_expression}
+use Rattle.a95_base.specs.Rules.{declared_twice, undeclared, wrong_attributes, wrong_dummy, not_constant, constant_faults}
+use Rattle.a95_base.specs.Rules.{rank_too_great, wrong_length, shape_too_large, unknown_use, host_variable, wrong_result}
+use Rattle.a95_base.specs.Rules.{no_specification_expression}
 use Rattle.names_types.specs.Plain.{Source}
 use Rattle.names_types.specs.Scopes.{Scope}
-use Rattle.names_types.specs.Rules.{declared_twice_on, undeclared_on, wrong_attributes_on, wrong_dummy_on, not_constant_on, constant_faults_on, rank_too_great_on, wrong_length_on, shape_too_large_on, unknown_use_on, host_variable_on, wrong_result_on, no_specification_on, anywhere}
+use Rattle.names_types.specs.Rules.{declared_twice_on, undeclared_on, wrong_attributes_on, wrong_dummy_on, not_constant_on}
+use Rattle.names_types.specs.Rules.{constant_faults_on, rank_too_great_on, wrong_length_on, shape_too_large_on, unknown_use_on}
+use Rattle.names_types.specs.Rules.{host_variable_on, wrong_result_on, no_specification_on, anywhere}
 
 -- a rule with the lines of a scope on which it holds
 abbrev pub Ruled : Type 0

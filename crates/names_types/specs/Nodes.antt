@@ -40,6 +40,6 @@ AppliedNames = (name : Word) (items : List Item) → reference_of (r.Items name 
 
 abbrev pub Substrings : Type 0
 Substrings = (name : Word) (items : List Item) (lower upper : Option Expression)
-    → reference_of (r.Substring name items lower upper)
+    → reference_of (r.Substring name items (lower, upper))
     ≡ plain.Substring name (joined_items (map item_of items))
     (bound_of (option_map expr_of lower)) (bound_of (option_map expr_of upper))

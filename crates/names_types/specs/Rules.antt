@@ -1,5 +1,6 @@
 -- The rules of refusal on names and declarations: on which lines of a scope each of them holds, and which are broken in a source.
-use Rattle.std.specs.Prelude.{ℕ, ℤ, pos, ◌*◌, ◌+ℤ◌, ◌-ℤ◌, nat_lt, int_lt, Bool, true, false, not, ◌&&◌, ◌||◌, unsigned_abs, if◌then◌else◌, List, [], ◌∷◌, ◌++◌, map, length, Option, Some, None}
+use Rattle.std.specs.Prelude.{ℕ, ℤ, pos, ◌*◌, ◌+ℤ◌, ◌-ℤ◌, nat_lt, int_lt, Bool, true, false, not, ◌&&◌, ◌||◌, unsigned_abs}
+use Rattle.std.specs.Prelude.{if◌then◌else◌, List, [], ◌∷◌, ◌++◌, map, length, Option, Some, None}
 use Rattle.std.specs.List.{list_any, list_all, filter, flat_map, filter_map}
 use Rattle.std.specs.Option.{is_some, is_none}
 use Rattle.a95_base.specs.declared.scalar.Scalar.TheVariants as scalar
@@ -7,12 +8,21 @@ use Rattle.a95_base.specs.declared.scalar.Kind.{Kind}
 use Rattle.a95_base.specs.declared.scalar.Kind.TheVariants as kind
 use Rattle.a95_base.specs.Limits.{greatest_rank, most_elements}
 use Rattle.a95_base.specs.Lists.{Member}
-use Rattle.a95_base.specs.Rules.{declared_twice, undeclared, wrong_attributes, wrong_dummy, not_constant, constant_faults, rank_too_great, wrong_length, shape_too_large, unknown_use, host_variable, wrong_result, no_specification_expression}
+use Rattle.a95_base.specs.Rules.{declared_twice, undeclared, wrong_attributes, wrong_dummy, not_constant, constant_faults}
+use Rattle.a95_base.specs.Rules.{rank_too_great, wrong_length, shape_too_large, unknown_use, host_variable, wrong_result}
+use Rattle.a95_base.specs.Rules.{no_specification_expression}
 use Rattle.f95_tree.specs.Forms.{Word}
 use Rattle.intrinsic_table.specs.Finding.{is_word}
-use Rattle.names_types.specs.Plain.{Expr, Constructor, Values, no_value, value, loop, Number, Computed, Assumed, TypeSpec, Integer, Logical, Character, Dim, Upper, Both, Lower, Deferred, Attribute, Use, Mention, Function, Source}
+use Rattle.names_types.specs.Plain.{Expr, Constructor, Values, no_value, value, loop, Number, Computed, Assumed, TypeSpec, Integer}
+use Rattle.names_types.specs.Plain.{Logical, Character, Dim, Upper, Both, Lower, Deferred, Attribute, Use, Mention, Function}
+use Rattle.names_types.specs.Plain.{Source}
 use Rattle.names_types.specs.Constants.{Worth, Is, is_spoilt, Valued, is_kind, Sense, valued}
-use Rattle.names_types.specs.Scopes.{is_among, Object, is_parameter, is_allocatable, is_dimension, is_intended, is_constant, has_allocatable, has_intent, is_scalar, kind_of, Meant, Form, Brings, Declares, Types, Begins, Entry, Share, Offer, offer_named, Place, InMain, InModule, InProcedure, Scope, entries, own_names, constant_sense, worth_in, length_within, Sited, meant, sites, scopes, is_undeclared, is_of_host, is_settled, mentions, dummies_of, is_dummy, entries_named, some_object, specification_sense}
+use Rattle.names_types.specs.Scopes.{is_among, Object, is_parameter, is_allocatable, is_dimension, is_intended, is_constant}
+use Rattle.names_types.specs.Scopes.{has_allocatable, has_intent, is_scalar, kind_of, Meant, Form, Brings, Declares, Types, Begins}
+use Rattle.names_types.specs.Scopes.{Entry, Share, Offer, offer_named, Place, InMain, InModule, InProcedure, Scope, entries}
+use Rattle.names_types.specs.Scopes.{own_names, constant_sense, worth_in, length_within, Sited, meant, sites, scopes, is_undeclared}
+use Rattle.names_types.specs.Scopes.{is_of_host, is_settled, mentions, dummies_of, is_dummy, entries_named, some_object}
+use Rattle.names_types.specs.Scopes.{specification_sense}
 
 -- the lines of those at which a test holds
 abbrev pub lines_where : {A : Type 0} → (A → ℕ) → (A → Bool) → List A → List ℕ

@@ -1,6 +1,7 @@
 -- Scopes: which names each one declares, by which statement, and what each name means there. A scope is the main program, a module,
 -- or a procedure; it sees its own names, and a procedure sees of its host the named constants and the procedures.
-use Rattle.std.specs.Prelude.{ℕ, pos, suc, nat_le, Bool, true, false, not, ◌&&◌, ◌||◌, ◌==◌, if◌then◌else◌, List, [], ◌∷◌, ◌++◌, map, length, Option, Some, None, option_map}
+use Rattle.std.specs.Prelude.{ℕ, pos, suc, nat_le, Bool, true, false, not, ◌&&◌, ◌||◌, ◌==◌, if◌then◌else◌, List, [], ◌∷◌, ◌++◌}
+use Rattle.std.specs.Prelude.{map, length, Option, Some, None, option_map}
 use Rattle.std.specs.List.{list_any, list_all, find, filter, flat_map, filter_map}
 use Rattle.std.specs.Option.{is_none}
 use Rattle.a95_base.specs.declared.scalar.Scalar.{Scalar}
@@ -15,9 +16,12 @@ use Rattle.f95_tree.specs.declared.declaration.Intent.TheVariants as intent
 use Rattle.intrinsic_table.specs.declared.intrinsic.Intrinsic.{Intrinsic}
 use Rattle.intrinsic_table.specs.Finding.{is_word}
 use Rattle.names_types.specs.Keywords.{intrinsic_named}
-use Rattle.names_types.specs.Plain.{Expr, Number, Computed, Assumed, TypeSpec, Integer, Logical, Character, Dim, Attribute, Parameter, Allocatable, Dimension, Intended, Entity, Declaration, Use, Mention, Part, Function, Procedure, Host, Module, Source}
+use Rattle.names_types.specs.Plain.{Expr, Number, Computed, Assumed, TypeSpec, Integer, Logical, Character, Dim, Attribute}
+use Rattle.names_types.specs.Plain.{Parameter, Allocatable, Dimension, Intended, Entity, Declaration, Use, Mention, Part, Function}
+use Rattle.names_types.specs.Plain.{Procedure, Host, Module, Source}
 use Rattle.names_types.specs.Mentions.{names_in, names_in_type, mentions_on, mentions_in_declarations}
-use Rattle.names_types.specs.Constants.{facts_of, an_integer, is_kind, Worth, Is, Spoilt, Unknown, Valued, valued_as, Sense, Names, NamesArray, NamesIntrinsic, NamesOther, valued, then_option, only_if, text_of}
+use Rattle.names_types.specs.Constants.{facts_of, an_integer, is_kind, Worth, Is, Spoilt, Unknown, Valued, valued_as, Sense, Names}
+use Rattle.names_types.specs.Constants.{NamesArray, NamesIntrinsic, NamesOther, valued, then_option, only_if, text_of}
 
 abbrev pub is_among : List Word → Word → Bool
 is_among words word = list_any (is_word word) words

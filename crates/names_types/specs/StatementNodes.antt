@@ -15,7 +15,8 @@ use Rattle.f95_tree.specs.declared.source.Otherwise.{Otherwise}
 use Rattle.f95_tree.specs.declared.source.Ending.{Ending}
 use Rattle.f95_tree.specs.declared.source.WhereBlock.{WhereBlock}
 use Rattle.names_types.specs.Mentions.{mentions_on}
-use Rattle.names_types.specs.View.{together, names_of, action_names, control_names, header_names, assignments_mentions, last_part, where_mentions, statement_mentions, branch_mentions, case_mentions, otherwise_mentions}
+use Rattle.names_types.specs.View.{together, names_of, action_names, control_names, header_names, assignments_mentions, last_part}
+use Rattle.names_types.specs.View.{where_mentions, statement_mentions, branch_mentions, case_mentions, otherwise_mentions}
 
 abbrev pub Actions : Type 0
 Actions = (l : Line) (a : Action) → statement_mentions (statement.Action l a) ≡ mentions_on l.0 (action_names a)

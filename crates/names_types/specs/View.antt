@@ -101,7 +101,8 @@ item_at (layer.Triplet lower upper stride) more = plain.triplet (bound_of lower)
 abbrev pub reference_at : Reference-F plain.Expr AddItem plain.Reference AddValue → plain.Reference
 reference_at (layer.Whole name) = plain.Whole name
 reference_at (layer.Items name items) = plain.Applied name (joined_items items)
-reference_at (layer.Substring name items lower upper) = plain.Substring name (joined_items items) (bound_of lower) (bound_of upper)
+reference_at (layer.Substring name items (lower, upper)) = plain.Substring name (joined_items items) (bound_of lower)
+    (bound_of upper)
 
 abbrev pub value_at : Value-F plain.Expr AddItem plain.Reference AddValue → AddValue
 value_at (layer.One e) more = plain.value e more

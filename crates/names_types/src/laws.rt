@@ -1,6 +1,7 @@
 //! Laws of scopes and of rules: each is the contract of a function that does nothing.
 ghost use Rattle.names_types.specs.Laws.{ListedAreBroken, FirstIsLeast, NoneIsUnbroken, EachDeclaredOnce, HostIsDeclared};
-ghost use Rattle.names_types.specs.Nodes.{Literals, References, Brackets, Constructors, Signs, Operations, WholeNames, AppliedNames, Substrings};
+ghost use Rattle.names_types.specs.Nodes.{Literals, References, Brackets, Constructors, Signs, Operations, WholeNames};
+ghost use Rattle.names_types.specs.Nodes.{AppliedNames, Substrings};
 ghost use Rattle.names_types.specs.StatementNodes.{Actions, Ifs, IfBlocks, Selects, Loops, Wheres, Foralls};
 
 /// The list of a source's breaks has all that it breaks, and nothing else.

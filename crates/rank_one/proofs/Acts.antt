@@ -1,5 +1,6 @@
 -- What a statement of the first form is: an assignment or a PRINT by itself, printed so.
-use Rattle.std.proofs.Common.{◌≡◌, ℕ, ◌+◌, ◌≤◌, arith, Bool, true, false, ◌&&◌, List, [], ◌∷◌, ◌++◌, map, length, Option, Some, None, refl, sym, ◌∙◌, ap, subst, length-append, append_assoc, append-nil}
+use Rattle.std.proofs.Common.{◌≡◌, ℕ, ◌+◌, ◌≤◌, arith, Bool, true, false, ◌&&◌, List, [], ◌∷◌, ◌++◌, map, length, Option, Some}
+use Rattle.std.proofs.Common.{None, refl, sym, ◌∙◌, ap, subst, length-append, append_assoc, append-nil}
 use Rattle.std.specs.List.{list_all}
 use Rattle.std.proofs.lemmas.List.{length-map}
 use Rattle.f95_tree.specs.declared.terminal.Punctuation.TheVariants as mark
@@ -18,7 +19,8 @@ use Rattle.rank_one.specs.declared.form.NamedAction.TheVariants as action
 use Rattle.rank_one.specs.declared.form.NamedSum.{NamedSum}
 use Rattle.rank_one.specs.declared.form.NamedFactor.{NamedFactor}
 use Rattle.rank_one.specs.declared.form.NamedFactor.TheVariants as factor
-use Rattle.rank_one.specs.Forms.{◌>>=◌, term_in, factor_in, whole, sum_in, sole_factor, name_of_factor, number_of_factor, name_in, constant_in, names_from, print_in, assignment_in, action_in}
+use Rattle.rank_one.specs.Forms.{◌>>=◌, term_in, factor_in, whole, sum_in, sole_factor, name_of_factor, number_of_factor, name_in}
+use Rattle.rank_one.specs.Forms.{constant_in, names_from, print_in, assignment_in, action_in}
 use Rattle.rank_one.specs.Grammar.{number_tree, name_tree, factor_tree, sum_tree, action_tree, fits_factor, fits_sum, fits_action}
 use Rattle.rank_one.proofs.Choices.{both, some_is}
 use Rattle.rank_one.proofs.Printed.{bound, Known, known, whole_is, one_term, term_of, term_is, factor_is, sum_size}
@@ -46,7 +48,8 @@ pub name_known : (x : Expression) (n : Word) → name_in x ≡ Some n → name_t
 name_known x n h = bound (sole_factor x) _ n h (λ f is last.
     ap factor_tree (sym (named_factor f n last)) ∙ (sole_known x f is).tree)
 
-pub constant_known : (x : Expression) (n : ℕ) → constant_in x ≡ Some n → (number_tree n ≡ x) × (fits_factor (factor.Number n) ≡ true)
+pub constant_known : (x : Expression) (n : ℕ) → constant_in x ≡ Some n →
+    (number_tree n ≡ x) × (fits_factor (factor.Number n) ≡ true)
 constant_known x n h = bound (sole_factor x) _ n h (λ f is last.
     let number = numbered_factor f n last in
     (ap factor_tree (sym number) ∙ (sole_known x f is).tree, ap fits_factor (sym number) ∙ (sole_known x f is).fits))
@@ -89,9 +92,16 @@ print_known [] n h = absurd (cc)
 print_known (x ∷ xs) n h = bound (name_in x) _ n h (λ first is more. bound (names_from [] xs) _ n more (λ rest is' last.
     let names = names_known [] xs rest is' in
     subst (Acted (act.Print (x ∷ xs))) (some_is (action.Print first rest) n last) (record {
-      tree = ap (λ y. act.Print (y ∷ map name_tree rest)) (name_known x first is) ∙ ap (λ ys. act.Print (x ∷ ys)) (ap (map name_tree) (sym names.all_is) ∙ names.trees);
+      tree = ap (λ y. act.Print (y ∷ map name_tree rest)) (name_known x first is)
+          ∙ ap (λ ys. act.Print (x ∷ ys)) (ap (map name_tree) (sym names.all_is) ∙ names.trees);
       fits = refl;
-      few = omega (arith, behind_few (map expression (x ∷ xs)), length-map (x ∷ xs) expression, length-map rest name_tree, ap length (ap (map name_tree) (sym names.all_is) ∙ names.trees));
+      few = omega (
+        arith,
+        behind_few (map expression (x ∷ xs)),
+        length-map (x ∷ xs) expression,
+        length-map rest name_tree,
+        ap length (ap (map name_tree) (sym names.all_is) ∙ names.trees),
+      );
     })))
 
 abbrev assignment_with : Reference → Expression → Assignment
@@ -101,9 +111,15 @@ assignment_known : (a : Assignment) (n : NamedAction) → assignment_in a.to a.v
 assignment_known a n h = bound (whole a.to) _ n h (λ target is more. bound (sum_in a.value) _ n more (λ s is' last.
     let k = known a.value s is' in
     subst (Acted (act.Assignment a)) (some_is (action.Assign target s) n last) (record {
-      tree = ap (λ t. act.Assignment (assignment_with t (sum_tree s))) (whole_is a.to target is) ∙ ap (λ v. act.Assignment (assignment_with a.to v)) k.tree;
+      tree = ap (λ t. act.Assignment (assignment_with t (sum_tree s))) (whole_is a.to target is)
+          ∙ ap (λ v. act.Assignment (assignment_with a.to v)) k.tree;
       fits = k.fits;
-      few = omega (arith, k.few, length-append (reference a.to) (punctuated mark.Assign (expression a.value)), ap length (ap reference (sym (whole_is a.to target is)) ∙ reference-Whole target));
+      few = omega (
+        arith,
+        k.few,
+        length-append (reference a.to) (punctuated mark.Assign (expression a.value)),
+        ap length (ap reference (sym (whole_is a.to target is)) ∙ reference-Whole target),
+      );
     })))
 
 pub action_known : (a : Action) (n : NamedAction) → action_in a ≡ Some n → Acted a n

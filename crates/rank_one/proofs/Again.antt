@@ -1,5 +1,6 @@
 -- What is printed in the first form is of it.
-use Rattle.std.proofs.Common.{◌≡◌, ℕ, pos, Bool, true, false, ◌&&◌, List, [], ◌∷◌, ◌++◌, map, fold, Option, Some, None, refl, sym, ◌∙◌, ap, append_assoc, append-nil}
+use Rattle.std.proofs.Common.{◌≡◌, ℕ, pos, Bool, true, false, ◌&&◌, List, [], ◌∷◌, ◌++◌, map, fold, Option, Some, None, refl, sym}
+use Rattle.std.proofs.Common.{◌∙◌, ap, append_assoc, append-nil}
 use Rattle.std.specs.List.{list_all}
 use Rattle.a95_base.specs.declared.source.Line.{Line}
 use Rattle.f95_tree.specs.Forms.{Word}
@@ -20,8 +21,11 @@ use Rattle.rank_one.specs.declared.form.NamedAddend.{NamedAddend}
 use Rattle.rank_one.specs.declared.form.NamedTerm.{NamedTerm}
 use Rattle.rank_one.specs.declared.form.NamedFactor.{NamedFactor}
 use Rattle.rank_one.specs.declared.form.NamedFactor.TheVariants as factor
-use Rattle.rank_one.specs.Forms.{◌>>=◌, number_in, one_factor, term_in, factor_in, joined, added, whole, sum_in, sole_factor, name_of_factor, number_of_factor, name_in, constant_in, names_from, action_in, named_at, named_in, array_in, arrays_from, arrays_in}
-use Rattle.rank_one.specs.Grammar.{number_tree, name_tree, factor_tree, times, term_tree, sign_of, plus, sum_tree, action_tree, array_tree, declaration_tree, is_integer_value, fits_factor, fits_term, fits_sum, fits_action}
+use Rattle.rank_one.specs.Forms.{◌>>=◌, number_in, one_factor, term_in, factor_in, joined, added, whole, sum_in, sole_factor}
+use Rattle.rank_one.specs.Forms.{name_of_factor, number_of_factor, name_in, constant_in, names_from, action_in, named_at, named_in}
+use Rattle.rank_one.specs.Forms.{array_in, arrays_from, arrays_in}
+use Rattle.rank_one.specs.Grammar.{number_tree, name_tree, factor_tree, times, term_tree, sign_of, plus, sum_tree, action_tree}
+use Rattle.rank_one.specs.Grammar.{array_tree, declaration_tree, is_integer_value, fits_factor, fits_term, fits_sum, fits_action}
 use Rattle.rank_one.proofs.Choices.{yes, both}
 use Rattle.rank_one.proofs.Nodes.{sum-Literal, sum-Reference, sum-Binary, whole-Whole}
 use Rattle.rank_one.proofs.Printed.{one_term, term_of}
@@ -34,7 +38,8 @@ sum_with t more = record { first = t; rest = more }
 
 factor_again : (f : NamedFactor) → fits_factor f ≡ true → sum_in (factor_tree f) ≡ Some (one_factor f)
 factor_again (factor.Number n) h =
-    sum-Literal (literal.Number (pos n)) ∙ ap (λ (o : Option ℕ). o >>= λ m. Some (one_factor (factor.Number m))) (yes (Some n) None h)
+    sum-Literal (literal.Number (pos n)) ∙ ap (λ (o : Option ℕ). o >>= λ m. Some (one_factor (factor.Number m)))
+    (yes (Some n) None h)
 factor_again (factor.Name n) h =
     sum-Reference (r.Whole n) ∙ ap (λ (o : Option Word). o >>= λ m. Some (one_factor (factor.Name m))) (whole-Whole n)
 
@@ -45,7 +50,8 @@ times_again x t f h fits =
     ∙ (ap (λ (o : Option NamedSum). o >>= λ a. (sum_in (factor_tree f) >>= λ b. joined operator.Multiply a b)) h
     ∙ ap (λ (o : Option NamedSum). o >>= λ b. joined operator.Multiply (one_term t) b) (factor_again f fits))
 
-factors_again : (rest : List NamedFactor) (x : Expression) (t : NamedTerm) → sum_in x ≡ Some (one_term t) → list_all fits_factor rest ≡ true
+factors_again : (rest : List NamedFactor) (x : Expression) (t : NamedTerm) → sum_in x ≡ Some (one_term t) →
+    list_all fits_factor rest ≡ true
     → sum_in (fold times x rest) ≡ Some (one_term (term_with t.first (t.rest ++ rest)))
 factors_again [] x t h fits = h ∙ ap (λ more. Some (one_term (term_with t.first more))) (sym (append-nil t.rest))
 factors_again (f ∷ rest) x t h fits =
@@ -70,7 +76,8 @@ plus_again x s a h fits =
     ∙ (ap (λ (o : Option NamedSum). o >>= λ n. joined (sign_of a.minus) s n) (term_again a.term fits)
     ∙ joined_again a.minus s (one_term a.term)))
 
-addends_again : (rest : List NamedAddend) (x : Expression) (s : NamedSum) → sum_in x ≡ Some s → list_all (λ (a : NamedAddend). fits_term a.term) rest ≡ true
+addends_again : (rest : List NamedAddend) (x : Expression) (s : NamedSum) → sum_in x ≡ Some s →
+    list_all (λ (a : NamedAddend). fits_term a.term) rest ≡ true
     → sum_in (fold plus x rest) ≡ Some (sum_with s.first (s.rest ++ rest))
 addends_again [] x s h fits = h ∙ ap (λ more. Some (sum_with s.first more)) (sym (append-nil s.rest))
 addends_again (a ∷ rest) x s h fits =
@@ -84,10 +91,12 @@ sum_again s fits =
     addends_again s.rest (term_tree s.first) (one_term s.first) (term_again s.first two.0) two.1
 
 name_again : (n : Word) → name_in (name_tree n) ≡ Some n
-name_again n = ap (λ (o : Option NamedSum). (o >>= λ s. (term_in s >>= λ t. factor_in t)) >>= name_of_factor) (factor_again (factor.Name n) refl)
+name_again n = ap (λ (o : Option NamedSum). (o >>= λ s. (term_in s >>= λ t. factor_in t)) >>= name_of_factor)
+    (factor_again (factor.Name n) refl)
 
 constant_again : (n : ℕ) → is_integer_value n ≡ true → constant_in (number_tree n) ≡ Some n
-constant_again n h = ap (λ (o : Option NamedSum). (o >>= λ s. (term_in s >>= λ t. factor_in t)) >>= number_of_factor) (factor_again (factor.Number n) h)
+constant_again n h = ap (λ (o : Option NamedSum). (o >>= λ s. (term_in s >>= λ t. factor_in t)) >>= number_of_factor)
+    (factor_again (factor.Number n) h)
 
 names_again : (names more : List Word) → names_from names (map name_tree more) ≡ Some (names ++ more)
 names_again names [] = ap Some (sym (append-nil names))
@@ -106,7 +115,8 @@ action_again (action.Print first rest) fits =
 pub named_again : (l : Line) (a : NamedAction) → fits_action a ≡ true → named_in (statement.Action l (action_tree a)) ≡ Some a
 named_again l a fits =
     ap named_in (sym (statement.rolls-Action l (action_tree a)))
-    ∙ (fold-roll-Statement (Option NamedAction) (Unit {0}) (Unit {0}) (Unit {0}) named_at (λ _. tt) (λ _. tt) (λ _. tt) (layer.Action l (action_tree a))
+    ∙ (fold-roll-Statement (Option NamedAction) (Unit {0}) (Unit {0}) (Unit {0}) named_at (λ _. tt) (λ _. tt) (λ _. tt)
+    (layer.Action l (action_tree a))
     ∙ action_again a fits)
 
 array_again : (a : NamedArray) → is_integer_value a.extent ≡ true → array_in (array_tree a) ≡ Some a
@@ -120,6 +130,7 @@ arrays_again arrays (a ∷ more) h =
     ap (λ (o : Option NamedArray). o >>= λ m. arrays_from (arrays ++ m ∷ []) (map array_tree more)) (array_again a two.0)
     ∙ (arrays_again (arrays ++ a ∷ []) more two.1 ∙ ap Some (append_assoc arrays (a ∷ []) more))
 
-pub declaration_again : (colons : Bool) (arrays : List NamedArray) → list_all (λ (a : NamedArray). is_integer_value a.extent) arrays ≡ true
+pub declaration_again : (colons : Bool) (arrays : List NamedArray) → list_all (λ (a : NamedArray). is_integer_value a.extent) arrays
+    ≡ true
     → arrays_in (declaration_tree colons arrays) ≡ Some arrays
 declaration_again colons arrays h = arrays_again [] arrays h

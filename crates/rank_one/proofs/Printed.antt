@@ -1,5 +1,6 @@
 -- What is of the first form is printed so, its numbers are numbers of the language, and it is no larger than its spelling.
-use Rattle.std.proofs.Common.{◌≡◌, ℕ, ◌+◌, ◌≤◌, arith, pos, negsuc, nat_le, Bool, true, false, ◌&&◌, List, [], ◌∷◌, ◌++◌, map, fold, length, Option, Some, None, refl, sym, ◌∙◌, ap, subst, cond, length-append, append_assoc}
+use Rattle.std.proofs.Common.{◌≡◌, ℕ, ◌+◌, ◌≤◌, arith, pos, negsuc, nat_le, Bool, true, false, ◌&&◌, List, [], ◌∷◌, ◌++◌, map, fold}
+use Rattle.std.proofs.Common.{length, Option, Some, None, refl, sym, ◌∙◌, ap, subst, cond, length-append, append_assoc}
 use Rattle.std.specs.List.{list_all, sum_by}
 use Rattle.std.proofs.lemmas.List.Sums.{fold-append, sum_by-cons, sum_by-append}
 use Rattle.f95_tree.specs.Forms.{Word}
@@ -23,12 +24,16 @@ use Rattle.rank_one.specs.declared.form.NamedAddend.{NamedAddend}
 use Rattle.rank_one.specs.declared.form.NamedTerm.{NamedTerm}
 use Rattle.rank_one.specs.declared.form.NamedFactor.{NamedFactor}
 use Rattle.rank_one.specs.declared.form.NamedFactor.TheVariants as factor
-use Rattle.rank_one.specs.Forms.{◌>>=◌, alone, natural_in, number_in, one_factor, term_in, factor_in, multiplied, added, joined, whole, sum_in}
-use Rattle.rank_one.specs.Grammar.{number_tree, name_tree, factor_tree, times, term_tree, sign_of, plus, sum_tree, fits_factor, fits_term, fits_sum}
+use Rattle.rank_one.specs.Forms.{◌>>=◌, alone, natural_in, number_in, one_factor, term_in, factor_in, multiplied, added, joined}
+use Rattle.rank_one.specs.Forms.{whole, sum_in}
+use Rattle.rank_one.specs.Grammar.{number_tree, name_tree, factor_tree, times, term_tree, sign_of, plus, sum_tree, fits_factor}
+use Rattle.rank_one.specs.Grammar.{fits_term, fits_sum}
 use Rattle.rank_one.proofs.Choices.{yes, no, by_test, both, both_hold, some_is}
-use Rattle.rank_one.proofs.Nodes.{sum-Literal, sum-Reference, sum-Bracketed, sum-Constructor, sum-Signed, sum-Binary, whole-Whole, whole-Items, whole-Substring}
+use Rattle.rank_one.proofs.Nodes.{sum-Literal, sum-Reference, sum-Bracketed, sum-Constructor, sum-Signed, sum-Binary, whole-Whole}
+use Rattle.rank_one.proofs.Nodes.{whole-Items, whole-Substring}
 
-pub bound : {A B P : Type 0} (o : Option A) (f : A → Option B) (y : B) → (o >>= f) ≡ Some y → ((x : A) → o ≡ Some x → f x ≡ Some y → P) → P
+pub bound : {A B P : Type 0} (o : Option A) (f : A → Option B) (y : B) → (o >>= f) ≡ Some y →
+    ((x : A) → o ≡ Some x → f x ≡ Some y → P) → P
 bound None f y h k = absurd (cc)
 bound (Some x) f y h k = k x refl h
 
@@ -38,7 +43,8 @@ alone_is (x ∷ xs) y z h = absurd (cc)
 
 pub natural_is : (m n : ℕ) → natural_in (pos m) ≡ Some n → (m ≡ n) × (nat_le n 2147483647 ≡ true)
 natural_is m n h = by_test (nat_le m 2147483647)
-    (λ small. let same = some_is m n (sym (yes (Some m) None small) ∙ h) in (same, subst (λ k. nat_le k 2147483647 ≡ true) same small))
+    (λ small. let same = some_is m n (sym (yes (Some m) None small) ∙ h) in
+    (same, subst (λ k. nat_le k 2147483647 ≡ true) same small))
     (λ large. absurd (cc (sym (no (Some m) None large) ∙ h)))
 
 pub number_is : (l : Literal) (n : ℕ) → number_in l ≡ Some n → (l ≡ literal.Number (pos n)) × (nat_le n 2147483647 ≡ true)
@@ -82,10 +88,12 @@ pub record Known (x : Expression) (s : NamedSum) : Type 0 where
   pub fits : fits_sum s ≡ true
   pub few : sum_size s ≤ length (expression x) + 1
 
-all_front : {A : Type 0} (test : A → Bool) (xs : List A) (y : A) → list_all test xs ≡ true → test y ≡ true → list_all test (xs ++ y ∷ []) ≡ true
+all_front : {A : Type 0} (test : A → Bool) (xs : List A) (y : A) → list_all test xs ≡ true → test y ≡ true →
+    list_all test (xs ++ y ∷ []) ≡ true
 all_front test [] y h k = both_hold (test y) true k refl
 all_front test (x ∷ xs) y h k =
-    let two = both (test x) (list_all test xs) h in both_hold (test x) (list_all test (xs ++ y ∷ [])) two.0 (all_front test xs y two.1 k)
+    let two = both (test x) (list_all test xs) h in both_hold (test x) (list_all test (xs ++ y ∷ [])) two.0
+    (all_front test xs y two.1 k)
 
 multiplied_known : (a b : Expression) (t : NamedTerm) (f : NamedFactor) → Known a (one_term t) → Known b (one_term (term_of f))
     → Known (e.Binary operator.Multiply a b) (one_term (term_with t.first (t.rest ++ f ∷ [])))
@@ -119,22 +127,28 @@ added_known minus a b x t ka kb =
     record {
       tree = fold-append plus (term_tree x.first) x.rest (addend ∷ [])
           ∙ (ap (λ y. e.Binary (sign_of minus) y (term_tree t)) ka.tree ∙ ap (λ y. e.Binary (sign_of minus) a y) kb.tree);
-      fits = both_hold (fits_term x.first) _ left.0 (all_front (λ (m : NamedAddend). fits_term m.term) x.rest addend left.1 right.0);
+      fits = both_hold (fits_term x.first) _ left.0
+          (all_front (λ (m : NamedAddend). fits_term m.term) x.rest addend left.1 right.0);
       few = omega (arith, spelled, apart, more, one, first, second);
     }
 
-times_known : (a b : Expression) (x y s : NamedSum) → Known a x → Known b y → multiplied x y ≡ Some s → Known (e.Binary operator.Multiply a b) s
-times_known a b x y s ka kb h = bound (term_in x) _ s h (λ t is more. bound (term_in y) _ s more (λ u is' more'. bound (factor_in u) _ s more' (λ f is'' last.
+times_known : (a b : Expression) (x y s : NamedSum) → Known a x → Known b y → multiplied x y ≡ Some s →
+    Known (e.Binary operator.Multiply a b) s
+times_known a b x y s ka kb h =
+    bound (term_in x) _ s h (λ t is more. bound (term_in y) _ s more (λ u is' more'. bound (factor_in u) _ s more' (λ f is'' last.
     subst (Known (e.Binary operator.Multiply a b)) (some_is (one_term (term_with t.first (t.rest ++ f ∷ []))) s last)
     (multiplied_known a b t f (subst (Known a) (term_is x t is) ka)
     (subst (λ z. Known b (one_term z)) (factor_is u f is'') (subst (Known b) (term_is y u is') kb))))))
 
-plus_known : (minus : Bool) (a b : Expression) (x y s : NamedSum) → Known a x → Known b y → added minus x y ≡ Some s → Known (e.Binary (sign_of minus) a b) s
+plus_known : (minus : Bool) (a b : Expression) (x y s : NamedSum) → Known a x → Known b y → added minus x y ≡ Some s →
+    Known (e.Binary (sign_of minus) a b) s
 plus_known minus a b x y s ka kb h = bound (term_in y) _ s h (λ t is last.
-    subst (Known (e.Binary (sign_of minus) a b)) (some_is (sum_with x.first (x.rest ++ record { minus = minus; term = t } ∷ [])) s last)
+    subst (Known (e.Binary (sign_of minus) a b))
+    (some_is (sum_with x.first (x.rest ++ record { minus = minus; term = t } ∷ [])) s last)
     (added_known minus a b x t ka (subst (Known b) (term_is y t is) kb)))
 
-joined_known : (op : Operator) (a b : Expression) (x y s : NamedSum) → Known a x → Known b y → joined op x y ≡ Some s → Known (e.Binary op a b) s
+joined_known : (op : Operator) (a b : Expression) (x y s : NamedSum) → Known a x → Known b y → joined op x y ≡ Some s →
+    Known (e.Binary op a b) s
 joined_known operator.Multiply a b x y s ka kb h = times_known a b x y s ka kb h
 joined_known operator.Add a b x y s ka kb h = plus_known false a b x y s ka kb h
 joined_known operator.Subtract a b x y s ka kb h = plus_known true a b x y s ka kb h
@@ -177,7 +191,8 @@ on_reference x k = λ s h. bound (whole x) _ s (sym (sum-Reference x) ∙ h) (λ
     }))
 
 on_binary : (op : Operator) (a b : Expression) → P a → P b → P (e.Binary op a b)
-on_binary op a b pa pb = λ s h. bound (sum_in a) _ s (sym (sum-Binary op a b) ∙ h) (λ x is more. bound (sum_in b) _ s more (λ y is' last.
+on_binary op a b pa pb = λ s h. bound (sum_in a) _ s (sym (sum-Binary op a b) ∙ h)
+    (λ x is more. bound (sum_in b) _ s more (λ y is' last.
     joined_known op a b x y s (pa x is) (pb y is') last))
 
 cases : ByNode P Any R Any

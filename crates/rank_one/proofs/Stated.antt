@@ -1,5 +1,6 @@
 -- Statements and declarations of the first form, printed as they are.
-use Rattle.std.proofs.Common.{◌≡◌, ℕ, ◌+◌, ◌≤◌, arith, Bool, true, false, List, [], ◌∷◌, ◌++◌, map, length, Option, Some, None, refl, sym, ◌∙◌, ap, subst, length-append, append_assoc, append-nil}
+use Rattle.std.proofs.Common.{◌≡◌, ℕ, ◌+◌, ◌≤◌, arith, Bool, true, false, List, [], ◌∷◌, ◌++◌, map, length, Option, Some, None}
+use Rattle.std.proofs.Common.{refl, sym, ◌∙◌, ap, subst, length-append, append_assoc, append-nil}
 use Rattle.std.proofs.lemmas.List.{length-map}
 use Rattle.a95_base.specs.declared.source.Line.{Line}
 use Rattle.f95_tree.specs.Forms.{Word, action_text, declaration_text, type_text, attribute_text, colons_text, entity_text}
@@ -23,7 +24,8 @@ use Rattle.f95_tree.specs.declared.source.Case.{Case}
 use Rattle.f95_tree.specs.declared.source.Otherwise.{Otherwise}
 use Rattle.rank_one.specs.declared.form.NamedAction.{NamedAction}
 use Rattle.rank_one.specs.declared.form.NamedArray.{NamedArray}
-use Rattle.rank_one.specs.Forms.{◌>>=◌, alone, action_in, named_at, named_in, constant_in, bound_in, extent_in, array_with, array_in, arrays_from, is_integer, arrays_in}
+use Rattle.rank_one.specs.Forms.{◌>>=◌, alone, action_in, named_at, named_in, constant_in, bound_in, extent_in, array_with}
+use Rattle.rank_one.specs.Forms.{array_in, arrays_from, is_integer, arrays_in}
 use Rattle.rank_one.specs.Grammar.{number_tree, action_tree, fits_action, array_tree, declaration_tree}
 use Rattle.rank_one.specs.Sizes.{terminals_at, statement_terminals}
 use Rattle.rank_one.proofs.Choices.{yes, no, by_test, some_is}
@@ -56,24 +58,45 @@ abbrev firsts : {A : Type 0} {Q : A → Type 0} → List ((x : A) × Q x) → Li
 firsts xs = map (λ p. p.0) xs
 
 rolled : (y : Statement-F ((x : Statement) × P x) ((x : Branch) × Any x) ((x : Case) × Any x) ((x : Otherwise) × Any x))
-    → P (roll-Statement (map-Statement ((x : Statement) × P x) ((x : Branch) × Any x) ((x : Case) × Any x) ((x : Otherwise) × Any x) Statement Branch Case Otherwise (λ p. p.0) (λ p. p.0) (λ p. p.0) (λ p. p.0) y))
+    → P (roll-Statement
+    (map-Statement ((x : Statement) × P x) ((x : Branch) × Any x) ((x : Case) × Any x) ((x : Otherwise) × Any x) Statement
+    Branch Case Otherwise (λ p. p.0) (λ p. p.0) (λ p. p.0) (λ p. p.0) y))
 rolled (layer.Action l a) = λ n h. record {
   line = l;
   it = a;
   is = sym (statement.rolls-Action l a);
-  acted = action_known a n (sym (fold-roll-Statement (Option NamedAction) (Unit {0}) (Unit {0}) (Unit {0}) named_at (λ _. tt) (λ _. tt) (λ _. tt) (layer.Action l a)) ∙ h);
+  acted = action_known a n
+      (sym (fold-roll-Statement (Option NamedAction) (Unit {0}) (Unit {0}) (Unit {0}) named_at (λ _. tt) (λ _. tt) (λ _. tt)
+      (layer.Action l a)) ∙ h);
   terminals = fold-roll-Statement ℕ (Unit {0}) (Unit {0}) (Unit {0}) terminals_at (λ _. tt) (λ _. tt) (λ _. tt) (layer.Action l a);
 }
-rolled (layer.If l c a) = other (layer.If l c a) (fold-roll-Statement (Option NamedAction) (Unit {0}) (Unit {0}) (Unit {0}) named_at (λ _. tt) (λ _. tt) (λ _. tt) (layer.If l c a))
-rolled (layer.IfBlock l n c xs bs None end) = other (layer.IfBlock l n c (firsts xs) (firsts bs) None end) (fold-roll-Statement (Option NamedAction) (Unit {0}) (Unit {0}) (Unit {0}) named_at (λ _. tt) (λ _. tt) (λ _. tt) (layer.IfBlock l n c (firsts xs) (firsts bs) None end))
-rolled (layer.IfBlock l n c xs bs (Some o) end) = other (layer.IfBlock l n c (firsts xs) (firsts bs) (Some o.0) end) (fold-roll-Statement (Option NamedAction) (Unit {0}) (Unit {0}) (Unit {0}) named_at (λ _. tt) (λ _. tt) (λ _. tt) (layer.IfBlock l n c (firsts xs) (firsts bs) (Some o.0) end))
-rolled (layer.Select l n c ks end) = other (layer.Select l n c (firsts ks) end) (fold-roll-Statement (Option NamedAction) (Unit {0}) (Unit {0}) (Unit {0}) named_at (λ _. tt) (λ _. tt) (λ _. tt) (layer.Select l n c (firsts ks) end))
-rolled (layer.Do l n k xs end) = other (layer.Do l n k (firsts xs) end) (fold-roll-Statement (Option NamedAction) (Unit {0}) (Unit {0}) (Unit {0}) named_at (λ _. tt) (λ _. tt) (λ _. tt) (layer.Do l n k (firsts xs) end))
-rolled (layer.Where b) = other (layer.Where b) (fold-roll-Statement (Option NamedAction) (Unit {0}) (Unit {0}) (Unit {0}) named_at (λ _. tt) (λ _. tt) (λ _. tt) (layer.Where b))
-rolled (layer.Forall l h xs end) = other (layer.Forall l h xs end) (fold-roll-Statement (Option NamedAction) (Unit {0}) (Unit {0}) (Unit {0}) named_at (λ _. tt) (λ _. tt) (λ _. tt) (layer.Forall l h xs end))
+rolled (layer.If l c a) =
+    other (layer.If l c a)
+    (fold-roll-Statement (Option NamedAction) (Unit {0}) (Unit {0}) (Unit {0}) named_at (λ _. tt) (λ _. tt) (λ _. tt)
+    (layer.If l c a))
+rolled (layer.IfBlock l n c xs bs None end) = other (layer.IfBlock l n c (firsts xs) (firsts bs) None end)
+    (fold-roll-Statement (Option NamedAction) (Unit {0}) (Unit {0}) (Unit {0}) named_at (λ _. tt) (λ _. tt) (λ _. tt)
+    (layer.IfBlock l n c (firsts xs) (firsts bs) None end))
+rolled (layer.IfBlock l n c xs bs (Some o) end) = other (layer.IfBlock l n c (firsts xs) (firsts bs) (Some o.0) end)
+    (fold-roll-Statement (Option NamedAction) (Unit {0}) (Unit {0}) (Unit {0}) named_at (λ _. tt) (λ _. tt) (λ _. tt)
+    (layer.IfBlock l n c (firsts xs) (firsts bs) (Some o.0) end))
+rolled (layer.Select l n c ks end) = other (layer.Select l n c (firsts ks) end)
+    (fold-roll-Statement (Option NamedAction) (Unit {0}) (Unit {0}) (Unit {0}) named_at (λ _. tt) (λ _. tt) (λ _. tt)
+    (layer.Select l n c (firsts ks) end))
+rolled (layer.Do l n k xs end) = other (layer.Do l n k (firsts xs) end)
+    (fold-roll-Statement (Option NamedAction) (Unit {0}) (Unit {0}) (Unit {0}) named_at (λ _. tt) (λ _. tt) (λ _. tt)
+    (layer.Do l n k (firsts xs) end))
+rolled (layer.Where b) =
+    other (layer.Where b)
+    (fold-roll-Statement (Option NamedAction) (Unit {0}) (Unit {0}) (Unit {0}) named_at (λ _. tt) (λ _. tt) (λ _. tt)
+    (layer.Where b))
+rolled (layer.Forall l h xs end) = other (layer.Forall l h xs end)
+    (fold-roll-Statement (Option NamedAction) (Unit {0}) (Unit {0}) (Unit {0}) named_at (λ _. tt) (λ _. tt) (λ _. tt)
+    (layer.Forall l h xs end))
 
 pub stated : (x : Statement) (n : NamedAction) → named_in x ≡ Some n → Stated x n
-stated = ind-Statement P Any Any Any (λ x y is. subst (λ z. P (roll-Statement z)) is (rolled y)) (λ x y is. tt) (λ x y is. tt) (λ x y is. tt)
+stated = ind-Statement P Any Any Any (λ x y is. subst (λ z. P (roll-Statement z)) is (rolled y)) (λ x y is. tt) (λ x y is. tt)
+    (λ x y is. tt)
 
 -- ---- declarations
 
@@ -92,10 +115,12 @@ extent_known (d ∷ ds) k h = bound (alone ds d) _ k h (λ x is last.
 abbrev entity_with : Word → Option (List Dim) → Option Expression → Entity
 entity_with n dims initial = record { name = n; dims = dims; initial = initial }
 
-array_known_with : (n : Word) (dims : Option (List Dim)) (initial : Option Expression) (a : NamedArray) → array_with n dims initial ≡ Some a
+array_known_with : (n : Word) (dims : Option (List Dim)) (initial : Option Expression) (a : NamedArray) → array_with n dims initial
+    ≡ Some a
     → array_tree a ≡ entity_with n dims initial
 array_known_with n (Some dims) None a h = bound (extent_in dims) _ a h (λ k is last.
-    ap array_tree (sym (some_is (record { name = n; extent = k }) a last)) ∙ ap (λ ds. entity_with n (Some ds) None) (extent_known dims k is))
+    ap array_tree (sym (some_is (record { name = n; extent = k }) a last))
+    ∙ ap (λ ds. entity_with n (Some ds) None) (extent_known dims k is))
 array_known_with n None None a h = absurd (cc)
 array_known_with n None (Some _) a h = absurd (cc)
 array_known_with n (Some dims) (Some _) a h = absurd (cc)
@@ -108,7 +133,8 @@ pub record Arrays (arrays : List NamedArray) (xs : List Entity) (all : List Name
   pub all_is : arrays ++ more ≡ all
   pub trees : map array_tree more ≡ xs
 
-pub arrays_known : (arrays : List NamedArray) (xs : List Entity) (all : List NamedArray) → arrays_from arrays xs ≡ Some all → Arrays arrays xs all
+pub arrays_known : (arrays : List NamedArray) (xs : List Entity) (all : List NamedArray) → arrays_from arrays xs ≡ Some all →
+    Arrays arrays xs all
 arrays_known arrays [] all h = record { more = []; all_is = append-nil arrays ∙ some_is arrays all h; trees = refl }
 arrays_known arrays (x ∷ xs) all h = bound (array_in x) _ all h (λ a is last.
     let rest = arrays_known (arrays ++ a ∷ []) xs all last in
@@ -127,9 +153,11 @@ abbrev declaration_with : TypeSpec → List Attribute → Bool → List Entity �
 declaration_with t attributes colons entities = record { of = t; attributes = attributes; colons = colons; entities = entities }
 
 -- a declaration of arrays is printed so
-pub declaration_known : (d : Declaration) (arrays : List NamedArray) → arrays_in d ≡ Some arrays → declaration_tree d.colons arrays ≡ d
+pub declaration_known : (d : Declaration) (arrays : List NamedArray) → arrays_in d ≡ Some arrays → declaration_tree d.colons arrays
+    ≡ d
 declaration_known d arrays h = by_test (is_integer d.of)
-    (λ integer. bound (alone d.attributes d.entities) (arrays_from []) arrays (sym (yes (alone d.attributes d.entities >>= arrays_from []) None integer) ∙ h) (λ es is last.
+    (λ integer. bound (alone d.attributes d.entities) (arrays_from []) arrays
+    (sym (yes (alone d.attributes d.entities >>= arrays_from []) None integer) ∙ h) (λ es is last.
     let sole = alone_is d.attributes d.entities es is in
     let made = arrays_known [] es arrays last in
     ap (λ t. declaration_with t [] d.colons (map array_tree arrays)) (sym (integer_is d.of integer))
@@ -138,13 +166,17 @@ declaration_known d arrays h = by_test (is_integer d.of)
     (λ other. absurd (cc (sym (no (alone d.attributes d.entities >>= arrays_from []) None other) ∙ h)))
 
 -- its arrays are no more than its terminals
-pub declaration_few : (d : Declaration) (arrays : List NamedArray) → arrays_in d ≡ Some arrays → length arrays ≤ length (declaration_text d)
+pub declaration_few : (d : Declaration) (arrays : List NamedArray) → arrays_in d ≡ Some arrays →
+    length arrays ≤ length (declaration_text d)
 declaration_few d arrays h =
     let same = ap (λ (x : Declaration). length x.entities) (declaration_known d arrays h) in
     let count = length-map arrays array_tree in
     let few = entities_few d.entities in
-    let first = length-append (type_text d.of) (behind_commas (map attribute_text d.attributes) ++ (colons_text d.colons ++ commas (map entity_text d.entities))) in
-    let second = length-append (behind_commas (map attribute_text d.attributes)) (colons_text d.colons ++ commas (map entity_text d.entities)) in
+    let first =
+    length-append (type_text d.of)
+    (behind_commas (map attribute_text d.attributes) ++ (colons_text d.colons ++ commas (map entity_text d.entities))) in
+    let second = length-append (behind_commas (map attribute_text d.attributes))
+    (colons_text d.colons ++ commas (map entity_text d.entities)) in
     let third = length-append (colons_text d.colons) (commas (map entity_text d.entities)) in
     omega (arith, same, count, few, first, second, third)
   where

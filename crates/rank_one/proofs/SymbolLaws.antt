@@ -1,5 +1,6 @@
 -- Arrays are found by their names.
-use Rattle.std.proofs.Common.{◌≡◌, ◌<◌, ◌+◌, ℕ, suc, zero, Bool, false, true, List, [], ◌∷◌, ◌++◌, length, refl, sym, ◌∙◌, ap, arith, cond, subst, Option, Some, None, get_or}
+use Rattle.std.proofs.Common.{◌≡◌, ◌<◌, ◌+◌, ℕ, suc, zero, Bool, false, true, List, [], ◌∷◌, ◌++◌, length, refl, sym, ◌∙◌, ap}
+use Rattle.std.proofs.Common.{arith, cond, subst, Option, Some, None, get_or}
 use Rattle.std.specs.Option.{option_map}
 use Rattle.std.proofs.lemmas.Bool.{false≢true}
 use Rattle.std.specs.Str.{bytes_eq}
@@ -16,11 +17,13 @@ map_some : (o : Option ℕ) (k : ℕ) → option_map suc o ≡ Some k → (P : T
 map_some None k h P f = absurd (cc)
 map_some (Some j) k h P f = f j refl (sym (some_is (suc j) k h))
 
-pub place_cons : (s : Symbol) (symbols : List Symbol) (name : List ℕ) → place_of (s ∷ symbols) name ≡ cond (bytes_eq s.name name) (Some 0) (option_map suc (place_of symbols name))
+pub place_cons : (s : Symbol) (symbols : List Symbol) (name : List ℕ) → place_of (s ∷ symbols) name
+    ≡ cond (bytes_eq s.name name) (Some 0) (option_map suc (place_of symbols name))
 unfolding place_of
 place_cons s symbols name = refl
 
-extent_cons : (s : Symbol) (symbols : List Symbol) (name : List ℕ) → extent_of (s ∷ symbols) name ≡ cond (bytes_eq s.name name) (Some s.array.extent) (extent_of symbols name)
+extent_cons : (s : Symbol) (symbols : List Symbol) (name : List ℕ) → extent_of (s ∷ symbols) name
+    ≡ cond (bytes_eq s.name name) (Some s.array.extent) (extent_of symbols name)
 unfolding extent_of
 extent_cons s symbols name = refl
 
@@ -30,11 +33,16 @@ pub extent_there : (symbols : List Symbol) (name : List ℕ) (k : ℕ) (d : Symb
 extent_there [] name k d h = absurd (cc (h, no_place name))
 extent_there (s ∷ symbols) name k d h = by_test (bytes_eq s.name name)
     (λ same.
-    let first : 0 ≡ k = some_is 0 k (sym (place_cons s symbols name ∙ yes (Some 0) (option_map suc (place_of symbols name)) same) ∙ h) in
+    let first : 0 ≡ k =
+    some_is 0 k (sym (place_cons s symbols name ∙ yes (Some 0) (option_map suc (place_of symbols name)) same) ∙ h) in
     (omega arith, extent_cons s symbols name ∙ (yes _ _ same ∙ ap (λ n. Some (get_or (s ∷ symbols) n d).array.extent) first)))
-    (λ other. map_some (place_of symbols name) k (sym (place_cons s symbols name ∙ no (Some 0) (option_map suc (place_of symbols name)) other) ∙ h) _
-    (λ j found later. let rest = extent_there symbols name j d found in
-    (omega (arith, rest.0), extent_cons s symbols name ∙ (no _ _ other ∙ (rest.1 ∙ ap (λ n. Some (get_or (s ∷ symbols) n d).array.extent) (sym later))))))
+    (λ other. map_some (place_of symbols name) k
+    (sym (place_cons s symbols name ∙ no (Some 0) (option_map suc (place_of symbols name)) other) ∙ h) _
+    (λ j found later. let rest = extent_there symbols name j d found in (
+      omega (arith, rest.0),
+      extent_cons s symbols name
+          ∙ (no _ _ other ∙ (rest.1 ∙ ap (λ n. Some (get_or (s ∷ symbols) n d).array.extent) (sym later))),
+    )))
 
 none_of : (b : Bool) (o : Option ℕ) → cond b (Some 0) (option_map suc o) ≡ None → (b ≡ false) × (o ≡ None)
 none_of true o h = absurd (cc)
@@ -59,8 +67,10 @@ other_name a b h same = false≢true (sym h ∙ (bytes_eq-Decides a b).1 same)
 pub own_name : (a : List ℕ) → bytes_eq a a ≡ true
 own_name a = by_test (bytes_eq a a) (λ h. h) (λ h. absurd (other_name a a h refl))
 
-pushed : (s t : Symbol) (n : ℕ) (o : Option ℕ) (name : List ℕ) (b : Bool) → bytes_eq t.name name ≡ b → bytes_eq s.name t.name ≡ false
-    → cond (bytes_eq s.name name) (Some 0) (option_map suc (cond b (Some n) o)) ≡ cond b (Some (suc n)) (cond (bytes_eq s.name name) (Some 0) (option_map suc o))
+pushed : (s t : Symbol) (n : ℕ) (o : Option ℕ) (name : List ℕ) (b : Bool) → bytes_eq t.name name ≡ b → bytes_eq s.name t.name
+    ≡ false
+    → cond (bytes_eq s.name name) (Some 0) (option_map suc (cond b (Some n) o))
+    ≡ cond b (Some (suc n)) (cond (bytes_eq s.name name) (Some 0) (option_map suc o))
 pushed s t n o name true same apart = no _ _ (ap (bytes_eq s.name) (sym (same_name t.name name same)) ∙ apart)
 pushed s t n o name false same apart = refl
 

@@ -22,9 +22,11 @@ Tells s r = r ≡ told (first_of (not_yet_breaks s)) (first_of (undeclared_break
 
 module _ (s : Source) (Q : Told → Type 0)
     (form : (b : Break) → first_of (not_yet_breaks s) ≡ Some b → Q (told (Some b) (first_of (undeclared_breaks s)) (unit_of s)))
-    (names : (b : Break) → first_of (not_yet_breaks s) ≡ None → first_of (undeclared_breaks s) ≡ Some b → Q (told None (Some b) (unit_of s)))
+    (names : (b : Break) → first_of (not_yet_breaks s) ≡ None → first_of (undeclared_breaks s) ≡ Some b →
+    Q (told None (Some b) (unit_of s)))
     (whole : first_of (not_yet_breaks s) ≡ None → first_of (undeclared_breaks s) ≡ None → Q (told None None (unit_of s))) where
-  by_names : (p : Option Break) → first_of (not_yet_breaks s) ≡ None → first_of (undeclared_breaks s) ≡ p → Q (told None p (unit_of s))
+  by_names : (p : Option Break) → first_of (not_yet_breaks s) ≡ None → first_of (undeclared_breaks s) ≡ p →
+      Q (told None p (unit_of s))
   by_names (Some b) h k = names b h k
   by_names None h k = whole h k
 

@@ -63,7 +63,8 @@ array_tree a = record { name = a.name; dims = Some (dim.Upper (number_tree a.ext
 
 -- INTEGER, with or without ::
 abbrev pub declaration_tree : Bool → List NamedArray → Declaration
-declaration_tree colons arrays = record { of = type_spec.Integer; attributes = []; colons = colons; entities = map array_tree arrays }
+declaration_tree colons arrays =
+    record { of = type_spec.Integer; attributes = []; colons = colons; entities = map array_tree arrays }
 
 -- each number is one of the language
 

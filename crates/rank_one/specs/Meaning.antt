@@ -1,4 +1,5 @@
--- What a source of the first form means: whole values, in the order of its statements. Nothing here goes over elements one at a time.
+-- What a source of the first form means: whole values, in the order of its statements. Nothing here goes over elements one at a
+-- time.
 use Rattle.std.specs.Prelude.{ℕ, ℤ, pos, Bool, true, false, List, [], ◌∷◌, ◌++◌, map, length, replicate, fold, if◌then◌else◌}
 use Rattle.std.specs.List.{zip, flat_map, slice_index_or, slice_set}
 use Rattle.a95_base.specs.Integer.{sum_of, difference_of, product_of}
@@ -38,14 +39,16 @@ factor_value arrays (factor.Array place) = Whole (array_at arrays place)
 
 -- factors and terms are taken from left to right, and each operation wraps
 abbrev pub term_value : List (List ℤ) → Term → Value
-term_value arrays term = fold (λ value more. combined product_of value (factor_value arrays more)) (factor_value arrays term.first) term.rest
+term_value arrays term = fold (λ value more. combined product_of value (factor_value arrays more)) (factor_value arrays term.first)
+    term.rest
 
 abbrev pub added : Bool → ℤ → ℤ → ℤ
 added true = difference_of
 added false = sum_of
 
 abbrev pub sum_value : List (List ℤ) → Sum → Value
-sum_value arrays sum = fold (λ value more. combined (added more.minus) value (term_value arrays more.term)) (term_value arrays sum.first) sum.rest
+sum_value arrays sum = fold (λ value more. combined (added more.minus) value (term_value arrays more.term))
+    (term_value arrays sum.first) sum.rest
 
 -- a value as the elements of an array that has so many
 abbrev pub elements : ℕ → Value → List ℤ

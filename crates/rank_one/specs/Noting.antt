@@ -1,5 +1,6 @@
 -- The rules that a source breaks, noted one statement after another, and the arrays and statements that it has.
-use Rattle.std.specs.Prelude.{ℕ, Bool, true, false, not, ◌||◌, nat_lt, List, [], ◌∷◌, ◌++◌, map, fold, if◌then◌else◌, Option, Some, None, is_some}
+use Rattle.std.specs.Prelude.{ℕ, Bool, true, false, not, ◌||◌, nat_lt, List, [], ◌∷◌, ◌++◌, map, fold, if◌then◌else◌, Option, Some}
+use Rattle.std.specs.Prelude.{None, is_some}
 use Rattle.std.specs.List.{flat_map}
 use Rattle.a95_base.specs.declared.source.Line.{Line}
 use Rattle.a95_base.specs.declared.breaks.Break.{Break}
@@ -34,7 +35,8 @@ is_refused symbols x = is_some (place_of symbols x.name) || nat_lt most_elements
 
 abbrev pub symbols_breaks : List Symbol → List Symbol → List Break
 symbols_breaks symbols [] = []
-symbols_breaks symbols (x ∷ xs) = noted (is_refused symbols x) (not_yet_at x.array.line) ++ symbols_breaks (with_symbol symbols x) xs
+symbols_breaks symbols (x ∷ xs) = noted (is_refused symbols x) (not_yet_at x.array.line)
+    ++ symbols_breaks (with_symbol symbols x) xs
 
 abbrev pub arrays_breaks : List Symbol → ℕ → Option (List NamedArray) → List Break
 arrays_breaks symbols line None = not_yet_at line ∷ []

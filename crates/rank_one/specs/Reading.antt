@@ -1,5 +1,6 @@
 -- Which nested forms are of the first form, which unit they are, and the rules that others break.
-use Rattle.std.specs.Prelude.{◌≡◌, ℕ, ◌<◌, ◌^◌, length, Bool, true, false, List, [], ◌∷◌, ◌++◌, map, fold, if◌then◌else◌, Option, Some, None, is_some, unwrap_or, Result, Ok, Err}
+use Rattle.std.specs.Prelude.{◌≡◌, ℕ, ◌<◌, ◌^◌, length, Bool, true, false, List, [], ◌∷◌, ◌++◌, map, fold, if◌then◌else◌, Option}
+use Rattle.std.specs.Prelude.{Some, None, is_some, unwrap_or, Result, Ok, Err}
 use Rattle.std.specs.List.{flat_map}
 use Rattle.a95_base.specs.Lists.{Every, Member}
 use Rattle.a95_base.specs.Breaks.{IsLeast}
@@ -66,22 +67,26 @@ pub data IsNotYet (s : Source) : ℕ → ℕ → Type 0 where
   has_use : (u : Line × Word × Option (List Word)) → Member s.main.section.uses u → IsNotYet s u.0.0 not_yet
   has_implicit : (l : Line) → s.main.section.implicit ≡ Some l → IsNotYet s l.0 not_yet
   -- a declaration of another form
-  other_declaration : (d : Line × Declaration) → Member s.main.section.declarations d → arrays_in d.1 ≡ None → IsNotYet s d.0.0 not_yet
+  other_declaration : (d : Line × Declaration) → Member s.main.section.declarations d → arrays_in d.1 ≡ None →
+      IsNotYet s d.0.0 not_yet
   large_extent : (x : Symbol) → Member (declared_in s.main.section.declarations) x → most_elements < x.array.extent
       → IsNotYet s x.array.line not_yet
   -- an array whose name was declared before
-  declared_twice : (before : List Symbol) (x : Symbol) (behind : List Symbol) → declared_in s.main.section.declarations ≡ before ++ x ∷ behind
+  declared_twice : (before : List Symbol) (x : Symbol) (behind : List Symbol) → declared_in s.main.section.declarations ≡ before
+      ++ x ∷ behind
       → is_some (place_of before x.name) ≡ true → IsNotYet s x.array.line not_yet
   -- a statement or a block of another form
   other_statement : (x : Statement) → Member s.main.body x → named_in x ≡ None → IsNotYet s (statement_line x) not_yet
   -- declared names of an assignment with unequal extents
-  unequal_extents : (x : Statement) → Member s.main.body x → (a : NamedAction) → named_in x ≡ Some a → is_conforming (symbols_of s) a ≡ false
+  unequal_extents : (x : Statement) → Member s.main.body x → (a : NamedAction) → named_in x ≡ Some a →
+      is_conforming (symbols_of s) a ≡ false
       → IsNotYet s (statement_line x) not_yet
   has_procedures : (c : Line × List Subprogram) → s.main.procedures ≡ Some c → IsNotYet s c.0.0 not_yet
 
 -- a statement has a name that isn't declared
 pub data IsUndeclared (s : Source) : ℕ → ℕ → Type 0 where
-  unknown_name : (x : Statement) → Member s.main.body x → (a : NamedAction) → named_in x ≡ Some a → is_declared (symbols_of s) a ≡ false
+  unknown_name : (x : Statement) → Member s.main.body x → (a : NamedAction) → named_in x ≡ Some a → is_declared (symbols_of s) a
+      ≡ false
       → IsUndeclared s (statement_line x) undeclared
 
 -- all that the source has is built

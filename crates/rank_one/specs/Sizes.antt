@@ -20,4 +20,5 @@ statement_terminals = fold-Statement ℕ (Unit {0}) (Unit {0}) (Unit {0}) termin
 
 -- those of the declarations and statements of a main program
 abbrev pub terminals_in : Source → ℕ
-terminals_in s = sum_by (λ (d : Line × Declaration). length (declaration_text d.1)) s.main.section.declarations + sum_by statement_terminals s.main.body
+terminals_in s = sum_by (λ (d : Line × Declaration). length (declaration_text d.1)) s.main.section.declarations
+    + sum_by statement_terminals s.main.body

@@ -1,5 +1,6 @@
 -- What every unit keeps that a text reads as, and its size.
-use Rattle.std.specs.Prelude.{ℕ, zero, suc, Bool, false, List, [], ◌∷◌, ◌++◌, length, nat_le, nat_lt, ◌==◌, ◌&&◌, IsTrue, ◌^◌, ◌+◌, ◌<◌}
+use Rattle.std.specs.Prelude.{ℕ, zero, suc, Bool, false, List, [], ◌∷◌, ◌++◌, length, nat_le, nat_lt, ◌==◌, ◌&&◌, IsTrue, ◌^◌, ◌+◌}
+use Rattle.std.specs.Prelude.{◌<◌}
 use Rattle.std.specs.List.{list_all, sum_by, flat_map}
 use Rattle.a95_base.specs.Limits.{most_elements}
 use Rattle.rank_one.specs.declared.unit.Unit.{Unit}

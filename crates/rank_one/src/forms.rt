@@ -1,6 +1,9 @@
 //! What trees of the reader are in the first form (`specs/Forms.antt`). Names stay where they stand in the tree.
 ghost use Rattle.std.specs.Prelude.{◌≡◌, []};
-ghost use Rattle.rank_one.specs.Forms.{Gives, natural_in, number_in, whole, term_in, factor_in, one_factor, multiplied, added, joined, sum_in, sole_factor, name_in, names_from, print_in, assignment_in, action_in, named_in, statement_line, constant_in, bound_in, extent_in, array_in, arrays_from, is_integer, arrays_in};
+ghost use Rattle.rank_one.specs.Forms.{Gives, natural_in, number_in, whole, term_in, factor_in, one_factor, multiplied, added};
+ghost use Rattle.rank_one.specs.Forms.{joined, sum_in, sole_factor, name_in, names_from, print_in, assignment_in, action_in};
+ghost use Rattle.rank_one.specs.Forms.{named_in, statement_line, constant_in, bound_in, extent_in, array_in, arrays_from};
+ghost use Rattle.rank_one.specs.Forms.{is_integer, arrays_in};
 
 use crate::failure::Failure;
 use crate::form::{NamedAction, NamedAddend, NamedArray, NamedFactor, NamedSum, NamedTerm};
@@ -196,7 +199,10 @@ fn action<'a>(alloc: Global, action: &'a Action) -> Result<NamedAction<'a>, Fail
     ensures { Gives (λ x. x) result (action_in action.now) }
 {
     match action {
-        Action::Assignment(assigned) => assignment(alloc, &assigned.to, &assigned.value),
+        Action::Assignment(assigned) => {
+            let assigned = assigned.get();
+            assignment(alloc, &assigned.to, &assigned.value)
+        }
         Action::Print(expressions) => print(alloc, expressions.as_slice()),
         _ => Err(Failure::OtherForm),
     }

@@ -7,8 +7,11 @@ ghost use Rattle.a95_base.specs.Limits.{most_elements};
 ghost use Rattle.a95_base.specs.Lists.{Every};
 ghost use Rattle.rank_one.specs.Conditions.{place_of};
 ghost use Rattle.rank_one.specs.Forms.{arrays_in, named_in, statement_line};
-ghost use Rattle.rank_one.specs.Noting.{noted, not_yet_at, is_refused, symbols_breaks, arrays_breaks, declarations_breaks, statement_breaks, implicit_breaks, procedures_breaks, module_break, use_break, around_breaks, not_yet_breaks, names_breaks, action_breaks, name_breaks, undeclared_breaks};
-ghost use Rattle.rank_one.specs.Reading.{symbol_on, with_symbol, symbols_in, declared_in, symbols_of, statement_in, acted, unit_of, LineFits, StatementFits, Fits, IsUnit, refusal_of, told, RefusesForm, RefusesNames};
+ghost use Rattle.rank_one.specs.Noting.{noted, not_yet_at, is_refused, symbols_breaks, arrays_breaks, declarations_breaks};
+ghost use Rattle.rank_one.specs.Noting.{statement_breaks, implicit_breaks, procedures_breaks, module_break, use_break};
+ghost use Rattle.rank_one.specs.Noting.{around_breaks, not_yet_breaks, names_breaks, action_breaks, name_breaks, undeclared_breaks};
+ghost use Rattle.rank_one.specs.Reading.{symbol_on, with_symbol, symbols_in, declared_in, symbols_of, statement_in, acted, unit_of};
+ghost use Rattle.rank_one.specs.Reading.{LineFits, StatementFits, Fits, IsUnit, refusal_of, told, RefusesForm, RefusesNames};
 ghost use Rattle.rank_one.specs.Typed.{IsTyped, size_of};
 ghost use Rattle.rank_one.specs.Sizes.{terminals_in};
 
@@ -18,8 +21,8 @@ use crate::name::Name;
 use crate::symbols::{Symbol, Symbols};
 use crate::unit::{Array, Unit};
 use crate::{forms, resolve, unit};
-use a95_base::{Break, Bytes, Line, MOST_ELEMENTS, PhaseError, Rule, first_of};
-use f95_tree::{Declaration, Module, Source, Statement, Subprogram};
+use a95_base::{Break, Line, MOST_ELEMENTS, PhaseError, Rule, SharedBytes, first_of};
+use f95_tree::{Action, Declaration, Main, Module, Source, Statement, Subprogram};
 use sqlite_items::Items;
 use std::alloc::{AllocError, Global};
 
@@ -43,7 +46,7 @@ fn note_modules(breaks: &mut Items<Break>, modules: &[Module]) -> Result<(), All
 
 fn note_uses(
     breaks: &mut Items<Break>,
-    uses: &[(Line, Bytes, Option<Items<Bytes>>)],
+    uses: &[(Line, SharedBytes, Option<Items<SharedBytes>>)],
 ) -> Result<(), AllocError>
     ensures { OnOk result (breaks.new ≡ breaks.old ++ map use_break uses.now) }
 {
@@ -229,19 +232,23 @@ impl Acts {
         }
     }
 
+    /// Goes on to all statements. Each is gone once it is noted, since its tree takes more memory than what it becomes.
+    #[tactic(auto, using(crate::proofs::Acting::goes_on, crate::proofs::Acting::stays, crate::proofs::Acting::fits_on))]
     fn act_all(
         &mut self,
         alloc: Global,
         symbols: &Symbols<'_>,
-        body: &[Statement],
+        body: Items<Statement>,
     ) -> Result<(), AllocError>
-        ensures statements { OnOk result (self.new.statements ≡ self.old.statements ++ flat_map (statement_in symbols.now) body.now) }
-        ensures not_yet { OnOk result (self.new.not_yet ≡ self.old.not_yet ++ flat_map (statement_breaks symbols.now) body.now) }
-        ensures undeclared { OnOk result (self.new.undeclared ≡ self.old.undeclared ++ flat_map (names_breaks symbols.now) body.now) }
-        ensures lines { OnOk result (Every StatementFits body.now) }
+        ensures statements { OnOk result (self.new.statements ≡ self.old.statements ++ flat_map (statement_in symbols.now) body) }
+        ensures not_yet { OnOk result (self.new.not_yet ≡ self.old.not_yet ++ flat_map (statement_breaks symbols.now) body) }
+        ensures undeclared { OnOk result (self.new.undeclared ≡ self.old.undeclared ++ flat_map (names_breaks symbols.now) body) }
+        ensures lines { OnOk result (Every StatementFits body) }
     {
-        for statement in body {
-            self.act(alloc, symbols, statement)?;
+        let mut left = body;
+        for at in 0..left.len() {
+            self.act(alloc, symbols, &left.as_slice()[at])?;
+            left.set(at, Statement::Action(Line(0), Action::Continue));
         }
         Ok(())
     }
@@ -255,27 +262,43 @@ struct Judged {
     undeclared: Items<Break>,
 }
 
-fn judge(alloc: Global, source: &Source) -> Result<Judged, AllocError>
-    ensures unit { IfOk result (λ j. j.unit ≡ unit_of source.now) }
-    ensures not_yet { IfOk result (λ j. j.not_yet ≡ not_yet_breaks source.now) }
-    ensures undeclared { IfOk result (λ j. j.undeclared ≡ undeclared_breaks source.now) }
-    ensures fits { IfOk result (λ j. Fits source.now) }
+fn judge(alloc: Global, source: Source) -> Result<Judged, AllocError>
+    ensures unit { IfOk result (λ j. j.unit ≡ unit_of source) }
+    ensures not_yet { IfOk result (λ j. j.not_yet ≡ not_yet_breaks source) }
+    ensures undeclared { IfOk result (λ j. j.undeclared ≡ undeclared_breaks source) }
+    ensures fits { IfOk result (λ j. Fits source) }
 {
-    let mut not_yet = note_around(alloc, source)?;
+    let mut not_yet = match note_around(alloc, &source) {
+        Ok(not_yet) => not_yet,
+        Err(error) => {
+            drop(source);
+            return Err(error);
+        }
+    };
+    let Source { modules, main } = source;
+    let Main {
+        opening,
+        section,
+        body,
+        procedures,
+        end,
+    } = main;
+    drop(modules);
+    drop(opening);
+    drop(procedures);
+    drop(end);
     let mut symbols = Symbols::new(alloc);
-    let section = &source.main.section;
-    declarations(
-        alloc,
-        &mut symbols,
-        &mut not_yet,
-        section.declarations.as_slice(),
-    )?;
+    let declared = section.declarations.as_slice();
+    if let Err(error) = declarations(alloc, &mut symbols, &mut not_yet, declared) {
+        drop(body);
+        return Err(error);
+    }
     let mut acts = Acts {
         statements: Items::new(alloc),
         not_yet,
         undeclared: Items::new(alloc),
     };
-    acts.act_all(alloc, &symbols, source.main.body.as_slice())?;
+    acts.act_all(alloc, &symbols, body)?;
     let arrays = symbols.arrays(alloc)?;
     let Acts {
         statements,
@@ -313,12 +336,12 @@ fn tell(judged: Judged) -> Result<Result<Unit, PhaseError>, PhaseError>
 
 /// The unit that a source is. An error of the third phase is outside: what isn't built yet, or no memory. One of the fourth is
 /// inside: a name that isn't declared, where all is built.
-pub fn unit_of(alloc: Global, source: &Source) -> Result<Result<Unit, PhaseError>, PhaseError>
-    ensures unit { IfOk result (λ named. IfOk named (λ u. IsUnit source.now u)) }
+pub fn unit_of(alloc: Global, source: Source) -> Result<Result<Unit, PhaseError>, PhaseError>
+    ensures unit { IfOk result (λ named. IfOk named (λ u. IsUnit source u)) }
     ensures typed { IfOk result (λ named. IfOk named (λ u. IsTyped u)) }
-    ensures size { IfOk result (λ named. IfOk named (λ u. size_of u ≤ terminals_in source.now)) }
-    ensures names { IfOk result (λ named. IfErr named (λ e. RefusesNames source.now e)) }
-    ensures form { IfErr result (λ e. RefusesForm source.now e) }
+    ensures size { IfOk result (λ named. IfOk named (λ u. size_of u ≤ terminals_in source)) }
+    ensures names { IfOk result (λ named. IfErr named (λ e. RefusesNames source e)) }
+    ensures form { IfErr result (λ e. RefusesForm source e) }
 {
     let judged = judge(alloc, source)?;
     tell(judged)

@@ -1,6 +1,7 @@
 //! Names of arrays become their places.
 ghost use Rattle.std.specs.Prelude.{◌≡◌, ◌∷◌, [], map, IfOk};
-ghost use Rattle.rank_one.specs.Conditions.{extent_of, names_in_factor, names_in_term, names_in_sum, names_in, is_conforming, is_declared};
+ghost use Rattle.rank_one.specs.Conditions.{extent_of, names_in_factor, names_in_term, names_in_sum, names_in, is_conforming};
+ghost use Rattle.rank_one.specs.Conditions.{is_declared};
 ghost use Rattle.rank_one.specs.Placing.{placed_name, placed_factor, placed_term, placed_addend, placed_sum, placed_action};
 ghost use Rattle.rank_one.specs.Resolving.{unseen, seen_with, see_all};
 

@@ -1,6 +1,6 @@
 //! Which sources are of the first form, what the others are refused for, and which unit a source is. The forms of a text without
 //! blocks and procedures are put one behind another, as nesting puts them.
-use a95_base::{Bytes, Line, PhaseError};
+use a95_base::{Line, PhaseError, SharedBytes};
 use f95_lexer::read_statements;
 use f95_parser::read_form;
 use f95_tree::{Declaration, Ending, Form, Main, Section, Source, UnitForm};
@@ -12,7 +12,7 @@ use std::test::Fail;
 /// The forms of a text that have been met.
 #[derive(Drop)]
 struct Straight {
-    opening: Option<(Line, Bytes)>,
+    opening: Option<(Line, SharedBytes)>,
     implicit: Option<Line>,
     declarations: Items<(Line, Declaration)>,
     body: Items<f95_tree::Statement>,
@@ -25,7 +25,9 @@ impl Straight {
                 self.take_unit(line, unit);
                 Ok(())
             }
-            Form::Declaration(declaration) => self.declarations.push((line, declaration)),
+            Form::Declaration(declaration) => {
+                self.declarations.push((line, declaration.into_inner()))
+            }
             Form::Block(_) => Ok(()),
             Form::Action(action) => self.body.push(f95_tree::Statement::Action(line, action)),
             Form::If(condition, action) => {

@@ -10,4 +10,5 @@ returns c =
     let y = to_z w32 (of_z w32 c.args.y) in
     c.integer_or_spoilt.ensures
     ∙ (checked_is c.checked_mul.result (x *ℤ y) c.checked_mul.ensures
-    ∙ ap within (same_two (λ a b. a *ℤ b) x y c.args.x c.args.y (to_z-of_z w32 c.args.x c.ranges.x) (to_z-of_z w32 c.args.y c.ranges.y)))
+    ∙ ap within
+    (same_two (λ a b. a *ℤ b) x y c.args.x c.args.y (to_z-of_z w32 c.args.x c.ranges.x) (to_z-of_z w32 c.args.y c.ranges.y)))

@@ -4,5 +4,6 @@ use Rattle.f95_expressions.proofs.run.row.Goals as goal
 
 pub loop-terminal-preserved : goal.loop-terminal-preserved
 loop-terminal-preserved c =
-    row_on c.loop-terminal.machine c.in_ok-machine-2.machine c.terminal-item.result c.args.terminals.now c.loop-terminal.terminal-index _
+    row_on c.loop-terminal.machine c.in_ok-machine-2.machine c.terminal-item.result c.args.terminals.now
+    c.loop-terminal.terminal-index _
     (omega arith) c.terminal-item.is c.in_ok-machine-2.ensures c.loop-terminal.invariant

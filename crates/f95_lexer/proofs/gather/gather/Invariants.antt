@@ -4,7 +4,7 @@ use Rattle.f95_lexer.proofs.gather.gather.Given as goal
 
 abbrev pub invariant-loop-rest : goal.invariant-loop-rest
 invariant-loop-rest l = record {
-  read : read_on (reading l.gatherer.list l.gatherer.line l.gatherer.tokens) (items_of (lexemes_behind 0 l.rest))
+  read : read_on (reading l.gatherer.list.items l.gatherer.line l.gatherer.tokens) (items_of (lexemes_behind 0 l.rest))
       ≡ read_on (reading [] 0 []) (items_of (lexemes_behind 0 l.text));
   breaks : l.gatherer.breaks.items ++ token_breaks (lexemes_behind 0 l.rest)
       ≡ l.fn.breaks.items ++ token_breaks (lexemes_behind 0 l.text);

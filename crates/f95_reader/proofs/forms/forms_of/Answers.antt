@@ -8,5 +8,5 @@ pub returns-in-Some-clause-refused : goal.returns-in-Some-clause-refused
 returns-in-Some-clause-refused c =
     let first : first_of c.in_ok-forms.field-0.breaks.items ≡ Some c.in-Some.first =
     cc (c.in_ok-forms.breaks-is, c.as_slice.ensures.value, c.first_of.ensures, c.in-Some.is) in
-    least_judged c.args.statements.now c.in_ok-forms.field-0.forms.items c.in_ok-forms.field-0.breaks.items
+    least_judged c.args.statements.items c.in_ok-forms.field-0.forms.items c.in_ok-forms.field-0.breaks.items
     c.in-Some.first.line c.in-Some.first.rule c.in_ok-forms.ensures first

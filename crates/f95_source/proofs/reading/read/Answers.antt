@@ -32,7 +32,7 @@ returns-in-Ok-Err-clause-refused c = subst (λ e. IsRefusedFor e c.args.bytes.no
     c.in-Ok.ensures.reads
     (subst (λ r. IfErr r (RefusesNames c.in-Ok.source)) c.in-Ok-Err.field-0-is c.in-Ok-Err.ensures.names))
 
-pub returns-clause-refused : goal.returns-clause-refused
-returns-clause-refused c = subst (λ e. IsRefusedFor e c.args.bytes.now) (sym c.in_phase-in-Err-unit_of.ensures)
+pub returns-in-Err-unit_of-clause-refused : goal.returns-in-Err-unit_of-clause-refused
+returns-in-Err-unit_of-clause-refused c = subst (λ e. IsRefusedFor e c.args.bytes.now) (sym c.in_phase-in-Err-unit_of.ensures)
     (refused_for_form c.one_source.ensures c.breaks_nothing.ensures c.args.bytes.now c.in-Ok.source c.in-Err-unit_of.error
     c.in-Ok.ensures.reads c.in-Err-unit_of.ensures.form)

@@ -17,5 +17,6 @@ gathering-smaller c =
 pub gathering-preserved : goal.gathering-preserved
 gathering-preserved c =
     ap (λ done. attributes_of done c.in-Some.next.rest.now) c.in_ok-push.ensures.ok
-    ∙ sym (attribute_step c.gathering.attributes c.gathering.rest.now (seen c.in-Some.next) (sym c.in_ok-next.ensures ∙ ap (option_map seen) c.in-Some.is))
+    ∙ sym (attribute_step c.gathering.attributes c.gathering.rest.now (seen c.in-Some.next)
+    (sym c.in_ok-next.ensures ∙ ap (option_map seen) c.in-Some.is))
     ∙ c.gathering.invariant

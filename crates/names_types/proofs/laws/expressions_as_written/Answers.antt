@@ -1,4 +1,5 @@
-use Rattle.names_types.proofs.Seeing.{literals, references, brackets, constructors, signs, operations, whole_names, applied_names, substrings}
+use Rattle.names_types.proofs.Seeing.{literals, references, brackets, constructors, signs, operations, whole_names, applied_names}
+use Rattle.names_types.proofs.Seeing.{substrings}
 use Rattle.names_types.proofs.laws.expressions_as_written.Goals as goal
 
 pub returns : goal.returns

@@ -17,10 +17,13 @@ loop-word-preserved c =
       placed = c.in_ok-push-2.ensures.ok
           ∙ (ap (λ arrays. arrays ++ c.name-in-loop-word.result ∷ []) c.loop-word.invariant.placed
           ∙ (ap (λ place. (first ∷ map (placed_name symbols) before) ++ place ∷ []) c.name-in-loop-word.ensures.place
-          ∙ ap (λ arrays. first ∷ arrays) (sym (map_one_more (placed_name symbols) c.args.rest.now c.loop-word.word-index c.word-item.result within c.word-item.is))));
+          ∙ ap (λ arrays. first ∷ arrays)
+          (sym (map_one_more (placed_name symbols) c.args.rest.now c.loop-word.word-index c.word-item.result within
+          c.word-item.is))));
       seen = c.name-in-loop-word.ensures.seen
           ∙ (ap (λ (s : Seen). seen_with s (extent_of symbols c.word-item.result)) c.loop-word.invariant.seen
-          ∙ sym (see_one_more symbols c.name.new.seen c.args.rest.now c.loop-word.word-index c.word-item.result within c.word-item.is));
+          ∙ sym (see_one_more symbols c.name.new.seen c.args.rest.now c.loop-word.word-index c.word-item.result within
+          c.word-item.is));
     }
 
 pub returns-clause-declared : goal.returns-clause-declared

@@ -15,13 +15,15 @@ loop-addend-preserved c =
     let within : c.loop-addend.addend-index < length items = omega arith in
     record {
       placed = cc (
-        map_one_more (placed_addend c.args.symbols.now) items c.loop-addend.addend-index c.addend-item.result within c.addend-item.is,
+        map_one_more (placed_addend c.args.symbols.now) items c.loop-addend.addend-index c.addend-item.result within
+            c.addend-item.is,
         c.in_ok-push.ensures.ok,
         c.in_ok-term.ensures.term,
         c.loop-addend.invariant.placed,
       );
       seen = cc (
-        see_more c.args.symbols.now c.term.new.seen (λ a. names_in_term a.term) items c.loop-addend.addend-index c.addend-item.result within c.addend-item.is,
+        see_more c.args.symbols.now c.term.new.seen (λ a. names_in_term a.term) items c.loop-addend.addend-index
+            c.addend-item.result within c.addend-item.is,
         c.in_ok-term.ensures.seen,
         c.loop-addend.invariant.seen,
       );
@@ -33,6 +35,7 @@ returns-clause-seen c =
     let items = c.as_slice-addend-items.result.now in
     let names : List NamedAddend → List (List ℕ) = λ addends. flat_map (λ a. names_in_term a.term) addends in
     c.loop-addend.invariant.seen
-    ∙ (ap (λ addends. see_all symbols c.term.new.seen (names addends)) (take_all c.loop-addend.addend-index items c.loop-addend-test.false ∙ c.as_slice-addend-items.ensures)
+    ∙ (ap (λ addends. see_all symbols c.term.new.seen (names addends))
+    (take_all c.loop-addend.addend-index items c.loop-addend-test.false ∙ c.as_slice-addend-items.ensures)
     ∙ (ap (λ (s : Seen). see_all symbols s (names c.args.value.now.rest)) c.in_ok-first.ensures.seen
     ∙ sym (see_append symbols c.args.seen.now (names_in_term c.args.value.now.first) (names c.args.value.now.rest))))

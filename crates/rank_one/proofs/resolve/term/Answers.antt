@@ -16,7 +16,8 @@ loop-named-preserved c =
         c.loop-named.invariant.placed,
       );
       seen = cc (
-        see_more c.args.symbols.now c.factor-first.new.seen names_in_factor items c.loop-named.named-index c.named-item.result within c.named-item.is,
+        see_more c.args.symbols.now c.factor-first.new.seen names_in_factor items c.loop-named.named-index c.named-item.result
+            within c.named-item.is,
         c.factor.ensures.seen,
         c.loop-named.invariant.seen,
       );

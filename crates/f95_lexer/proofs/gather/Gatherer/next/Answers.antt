@@ -10,7 +10,7 @@ returns c =
     let behind = c.behind.result.now in
     let found = c.in_ok-found.found in
     let taken = c.in_ok-take.ensures in
-    let start = reading before.list before.line before.tokens in
+    let start = reading before.list.items before.line before.tokens in
     record {
       read = one_read start _ first more behind found c.in_ok-found.ensures taken.read c.behind.ensures;
       breaks = one_broken before.breaks.items _ first more behind found c.in_ok-found.ensures taken.breaks c.behind.ensures;

@@ -4,7 +4,8 @@ use Rattle.rank_one.proofs.symbols.Symbols.find.Goals as goal
 
 pub index-requires : goal.index-requires
 index-requires c =
-    let there = extent_there c.args.self.now c.args.name.now c.in-Some.place (record { name = []; array = record { line = 0; extent = 0 } }) (sym c.in-Some.ensures) in
+    let there = extent_there c.args.self.now c.args.name.now c.in-Some.place
+    (record { name = []; array = record { line = 0; extent = 0 } }) (sym c.in-Some.ensures) in
     omega (arith, there.0, ap length c.self.view_is)
 
 pub returns-in-None-clause-extent : goal.returns-in-None-clause-extent

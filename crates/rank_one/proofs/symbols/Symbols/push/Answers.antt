@@ -11,11 +11,14 @@ pub invariant_of-self-in-Ok : goal.invariant_of-self-in-Ok
 invariant_of-self-in-Ok c = (
   (λ name.
       let before = c.self.inside.symbols.items in
-      let fresh : place_of before c.args.symbol.name ≡ None = ap (λ symbols. place_of symbols c.args.symbol.name) c.self.view_is ∙ c.requires in
+      let fresh : place_of before c.args.symbol.name ≡ None = ap (λ symbols. place_of symbols c.args.symbol.name) c.self.view_is
+      ∙ c.requires in
       let items : c.push.new.self.items ≡ before ++ c.args.symbol ∷ [] = c.in_ok-push.ensures.items in
       let found : get_by (λ k. slice_cmp nat_cmp name k.now) c.insert.new.self
-      ≡ cond (bytes_eq c.as_slice-name.result.now name) (Some c.len-place.result) (get_by (λ k. slice_cmp nat_cmp name k.now) c.self.inside.places)
-      = btree_map_updates_str c.as_slice-name.result.now c.self.inside.places c.insert.new.self (Some c.len-place.result) c.in-Ok.ensures.updates name in
+      ≡ cond (bytes_eq c.as_slice-name.result.now name) (Some c.len-place.result)
+      (get_by (λ k. slice_cmp nat_cmp name k.now) c.self.inside.places)
+      = btree_map_updates_str c.as_slice-name.result.now c.self.inside.places c.insert.new.self (Some c.len-place.result)
+      c.in-Ok.ensures.updates name in
       found
       ∙ (ap (λ o. cond (bytes_eq c.as_slice-name.result.now name) (Some c.len-place.result) o) (c.self.invariant.0 name)
       ∙ (ap (λ word. cond (bytes_eq word name) (Some c.len-place.result) (place_of before name)) c.as_slice-name.ensures
