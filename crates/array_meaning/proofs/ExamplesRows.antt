@@ -7,7 +7,11 @@ use Rattle.array_meaning.specs.Sections.{Section}
 use Rattle.array_meaning.specs.Reads.{is_spared}
 use Rattle.array_meaning.specs.Build.{num}
 use Rattle.array_meaning.proofs.Running.{running}
-use Rattle.array_meaning.specs.Examples.{shifted_section, sum_without_mask, pending_places_alone, forall_before_any_store, turns_run_out, shifts, shape_before_many_one, many_one_before_elements, scalar_mask_by_itself, order_of_three, ShiftedSection, SumWithoutMask, PendingPlacesAlone, ForallBeforeAnyStore, TurnsRunOut, Shifts, ShapeBeforeManyOne, ManyOneBeforeElements, ScalarMaskByItself, OrderOfThree, ReadsElsewhere}
+use Rattle.array_meaning.specs.Examples.{shifted_section, sum_without_mask, pending_places_alone, forall_before_any_store}
+use Rattle.array_meaning.specs.Examples.{turns_run_out, shifts, shape_before_many_one, many_one_before_elements}
+use Rattle.array_meaning.specs.Examples.{scalar_mask_by_itself, order_of_three, ShiftedSection, SumWithoutMask, PendingPlacesAlone}
+use Rattle.array_meaning.specs.Examples.{ForallBeforeAnyStore, TurnsRunOut, Shifts, ShapeBeforeManyOne, ManyOneBeforeElements}
+use Rattle.array_meaning.specs.Examples.{ScalarMaskByItself, OrderOfThree, ReadsElsewhere}
 
 pub shifted_section_row : ShiftedSection
 unfolding running shifted_section

@@ -9,15 +9,26 @@ use Rattle.f95_unit.specs.declared.operation.Inquiry.{Inquiry}
 use Rattle.f95_unit.specs.declared.operation.Inquiry.TheVariants as inquiry
 use Rattle.f95_unit.specs.declared.operation.Reduction.{Reduction}
 use Rattle.a95_base.specs.Lists.{Every}
-use Rattle.f95_unit.specs.Plain.{Expr, typed, Literal, Constant, Index, Named, Brackets, Unary, Binary, Constructor, Elementwise, Trim, Asked, Reduced, Rearranged, Called, Designator, at, Access, Whole, Subscripted, Subscripts, no_subscript, subscript, Subscript, One, Vector, SubscriptTriplet, Bound, Absent, Given, Part, AllOf, BytesOf, Items, no_item, value, loop, Arguments, no_argument, argument, Subject, Name, Of, call, Entity, Program}
+use Rattle.f95_unit.specs.Plain.{Expr, typed, Literal, Constant, Index, Named, Brackets, Unary, Binary, Constructor, Elementwise}
+use Rattle.f95_unit.specs.Plain.{Trim, Asked, Reduced, Rearranged, Called, Designator, at, Access, Whole, Subscripted, Subscripts}
+use Rattle.f95_unit.specs.Plain.{no_subscript, subscript, Subscript, One, Vector, SubscriptTriplet, Bound, Absent, Given, Part}
+use Rattle.f95_unit.specs.Plain.{AllOf, BytesOf, Items, no_item, value, loop, Arguments, no_argument, argument, Subject, Name, Of}
+use Rattle.f95_unit.specs.Plain.{call, Entity, Program}
 use Rattle.array_meaning.specs.Values.{Value}
-use Rattle.array_meaning.specs.State.{Dimension, Array, Variable, no_variable, State, Halt, Step, fault_at, unless, choose, given, allocated_array, turn_from, turn, variable, set_variable, store_all, inside}
+use Rattle.array_meaning.specs.State.{Dimension, Array, Variable, no_variable, State, Halt, Step, fault_at, unless, choose, given}
+use Rattle.array_meaning.specs.State.{allocated_array, turn_from, turn, variable, set_variable, store_all, inside}
 use Rattle.array_meaning.specs.Sections.{Picked, Section, placed, read_section}
-use Rattle.array_meaning.specs.Trees.{Tree, Held, UnaryOf, BinaryOf, Each, CallEach, Trees, no_tree, tree, Caller, element, elements, all_from, pairs_from, whole, valued, passed, paired}
-use Rattle.array_meaning.specs.Expressions.{number_of_value, rounds, gathered, asked, prepare, trees, values, actuals, reduction_values, answer, designate, pick, pick_each, pick_one, bound_or, part_bounds, gather, procedure_at}
-use Rattle.array_meaning.specs.Frames.{Avoids, AvoidsArguments, AvoidsSubject, AvoidsDesignator, AvoidsAccess, AvoidsSubscripts, AvoidsSubscript, AvoidsBound, AvoidsPart, AvoidsItems, with_variable, Ignores, CallIgnores, ValuesIgnoreOthers, FunctionCallsIgnore, StoresLeaveOthers}
+use Rattle.array_meaning.specs.Trees.{Tree, Held, UnaryOf, BinaryOf, Each, CallEach, Trees, no_tree, tree, Caller, element}
+use Rattle.array_meaning.specs.Trees.{elements, all_from, pairs_from, whole, valued, passed, paired}
+use Rattle.array_meaning.specs.Expressions.{number_of_value, rounds, gathered, asked, prepare, trees, values, actuals}
+use Rattle.array_meaning.specs.Expressions.{reduction_values, answer, designate, pick, pick_each, pick_one, bound_or, part_bounds}
+use Rattle.array_meaning.specs.Expressions.{gather, procedure_at}
+use Rattle.array_meaning.specs.Frames.{Avoids, AvoidsArguments, AvoidsSubject, AvoidsDesignator, AvoidsAccess, AvoidsSubscripts}
+use Rattle.array_meaning.specs.Frames.{AvoidsSubscript, AvoidsBound, AvoidsPart, AvoidsItems, with_variable, Ignores, CallIgnores}
+use Rattle.array_meaning.specs.Frames.{ValuesIgnoreOthers, FunctionCallsIgnore, StoresLeaveOthers}
 use Rattle.array_meaning.specs.Calls.{Actuals, is_out, body_acts, copy_back, copies_back, called}
-use Rattle.array_meaning.specs.Purity.{Refers, RefersArguments, RefersSubject, RefersDesignator, RefersAccess, RefersSubscripts, RefersSubscript, RefersBound, RefersPart, RefersItems}
+use Rattle.array_meaning.specs.Purity.{Refers, RefersArguments, RefersSubject, RefersDesignator, RefersAccess, RefersSubscripts}
+use Rattle.array_meaning.specs.Purity.{RefersSubscript, RefersBound, RefersPart, RefersItems}
 use Rattle.array_meaning.proofs.Kept.{Preorder, CallsIn, CallsInAll, keeps_prepare}
 use Rattle.array_meaning.proofs.Wholeness.{Gives, gives_pure, gives_then, gives_next, gives_any}
 

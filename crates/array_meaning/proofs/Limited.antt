@@ -1,6 +1,8 @@
 -- An array value has at most 2^24 elements: one line for each way to make one.
-use Rattle.std.proofs.Common.{◌≡◌, refl, sym, ap, ◌∙◌, subst, inl, inr, ◌⊎◌, ℕ, ℤ, pos, zero, suc, ◌+ℤ◌, ◌+◌, ◌*◌, ◌≤◌, Bool, true, false, not, ◌&&◌, ◌||◌, List, [], ◌∷◌, ◌++◌, map, length, drop, filter, reverse, arith}
-use Rattle.std.specs.Prelude.{Option, Some, None, nat_eq, nat_le, nat_lt, flat_map, zip, unsigned_abs, int_lt, if◌then◌else◌, Result, Ok, Err}
+use Rattle.std.proofs.Common.{◌≡◌, refl, sym, ap, ◌∙◌, subst, inl, inr, ◌⊎◌, ℕ, ℤ, pos, zero, suc, ◌+ℤ◌, ◌+◌, ◌*◌, ◌≤◌, Bool, true}
+use Rattle.std.proofs.Common.{false, not, ◌&&◌, ◌||◌, List, [], ◌∷◌, ◌++◌, map, length, drop, filter, reverse, arith}
+use Rattle.std.specs.Prelude.{Option, Some, None, nat_eq, nat_le, nat_lt, flat_map, zip, unsigned_abs, int_lt, if◌then◌else◌}
+use Rattle.std.specs.Prelude.{Result, Ok, Err}
 use Rattle.std.specs.List.{list_any}
 use Rattle.std.proofs.Math.Nat.{add_comm, mul-zero, le_refl, le_trans, mul_comm, mul_assoc, mul-suc}
 use Rattle.std.proofs.lemmas.Bool.{leb-true, leb-false}
@@ -19,17 +21,29 @@ use Rattle.f95_unit.specs.declared.operation.Inquiry.TheVariants as inquiry
 use Rattle.f95_unit.specs.declared.operation.Reduction.TheVariants as reduction
 use Rattle.f95_unit.specs.declared.operation.Rearranging.{Rearranging}
 use Rattle.f95_unit.specs.declared.operation.Rearranging.TheVariants as rearranging
-use Rattle.f95_unit.specs.Plain.{Expr, typed, Literal, Constant, Index, Named, Brackets, Unary, Binary, Constructor, Elementwise, Trim, Asked, Reduced, Rearranged, Called, Designator, at, Items, no_item, value, loop, Arguments, no_argument, argument, call, Program}
-use Rattle.array_meaning.specs.Values.{Value, truth_of, at_place, scalar_value, vector_value, size_of, is_shape, places, joint, within_limit, entry, without, by_place, argument_of, has_argument}
+use Rattle.f95_unit.specs.Plain.{Expr, typed, Literal, Constant, Index, Named, Brackets, Unary, Binary, Constructor, Elementwise}
+use Rattle.f95_unit.specs.Plain.{Trim, Asked, Reduced, Rearranged, Called, Designator, at, Items, no_item, value, loop, Arguments}
+use Rattle.f95_unit.specs.Plain.{no_argument, argument, call, Program}
+use Rattle.array_meaning.specs.Values.{Value, truth_of, at_place, scalar_value, vector_value, size_of, is_shape, places, joint}
+use Rattle.array_meaning.specs.Values.{within_limit, entry, without, by_place, argument_of, has_argument}
 use Rattle.array_meaning.specs.State.{Dimension, extent_of, Array, Variable, State, Halt, Step, unless, choose, given}
-use Rattle.array_meaning.specs.Sections.{Picked, Single, Listed, Stepped, subscripts_of, section_extents, Section, placed, read_section}
-use Rattle.array_meaning.specs.Reductions.{absent, first_argument, second_argument, mask_of, chosen, reduced, matrix_product, product_at, rank, dot, folded, least_integer, greatest_integer, all_true, any_true, how_many, along, shown_lower, shown_upper, entries, reduction_of}
-use Rattle.array_meaning.specs.Rearrangements.{conforming, packed_into, packed_or_filled, unpacked_at, unpacked_by, is_order, reshaped, reshape_checked, integers_of, order_or_own, no_elements, number_at, dim_or_one, transposed, cyclically_shifted, shifted_off, boundary_of, copies_along, at_least_none, rearrangement_of}
-use Rattle.array_meaning.specs.Trees.{Tree, Held, UnaryOf, BinaryOf, Each, CallEach, Trees, no_tree, tree, held, bracketed, Caller, Passed, shape, shapes, joined_shapes, whole}
-use Rattle.array_meaning.specs.Expressions.{rounds, gathered, prepare, trees, values, designate, gather, has_no_extents, procedure_at}
+use Rattle.array_meaning.specs.Sections.{Picked, Single, Listed, Stepped, subscripts_of, section_extents, Section, placed}
+use Rattle.array_meaning.specs.Sections.{read_section}
+use Rattle.array_meaning.specs.Reductions.{absent, first_argument, second_argument, mask_of, chosen, reduced, matrix_product}
+use Rattle.array_meaning.specs.Reductions.{product_at, rank, dot, folded, least_integer, greatest_integer, all_true, any_true}
+use Rattle.array_meaning.specs.Reductions.{how_many, along, shown_lower, shown_upper, entries, reduction_of}
+use Rattle.array_meaning.specs.Rearrangements.{conforming, packed_into, packed_or_filled, unpacked_at, unpacked_by, is_order}
+use Rattle.array_meaning.specs.Rearrangements.{reshaped, reshape_checked, integers_of, order_or_own, no_elements, number_at}
+use Rattle.array_meaning.specs.Rearrangements.{dim_or_one, transposed, cyclically_shifted, shifted_off, boundary_of, copies_along}
+use Rattle.array_meaning.specs.Rearrangements.{at_least_none, rearrangement_of}
+use Rattle.array_meaning.specs.Trees.{Tree, Held, UnaryOf, BinaryOf, Each, CallEach, Trees, no_tree, tree, held, bracketed, Caller}
+use Rattle.array_meaning.specs.Trees.{Passed, shape, shapes, joined_shapes, whole}
+use Rattle.array_meaning.specs.Expressions.{rounds, gathered, prepare, trees, values, designate, gather, has_no_extents}
+use Rattle.array_meaning.specs.Expressions.{procedure_at}
 use Rattle.array_meaning.specs.Purity.{Refers, RefersArguments, TurnsAlone, Changes}
 use Rattle.array_meaning.specs.Reads.{Either, Whenever, SeesActualsAlone}
-use Rattle.array_meaning.specs.Sizes.{IsLimited, is_of_places, TakesLimited, AllTakeLimited, ValuesAreLimited, InquiriesAreLimited, ReductionsAreLimited}
+use Rattle.array_meaning.specs.Sizes.{IsLimited, is_of_places, TakesLimited, AllTakeLimited, ValuesAreLimited, InquiriesAreLimited}
+use Rattle.array_meaning.specs.Sizes.{ReductionsAreLimited}
 use Rattle.array_meaning.proofs.Kept.{keeps_prepare, keeps_evaluate}
 use Rattle.array_meaning.proofs.PureCalls.{turns_alone}
 use Rattle.array_meaning.proofs.Wholeness.{Gives, gives_pure, gives_then, gives_next, gives_any, ok, ok_same, all_length}

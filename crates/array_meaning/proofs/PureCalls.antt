@@ -8,17 +8,32 @@ use Rattle.a95_base.specs.Steps.{pure}
 use Rattle.f95_unit.specs.declared.unit.DeclaredType.{DeclaredType}
 use Rattle.f95_unit.specs.declared.unit.Role.{Role}
 use Rattle.f95_unit.specs.declared.unit.Role.TheVariants as role
-use Rattle.f95_unit.specs.Plain.{Expr, Bound, Span, Allocation, Assign, Where, masked, MaskedBody, no_masked, assigning, narrowed, Others, no_other, elsewhere, Triplet, Forall, call, Stmt, Assigns, Masks, ForAll, Calls, Allocate, Deallocate, Print, Read, If, Select, Do, While, Forever, Exit, Cycle, Return, Stop, Stmts, no_stmt, stmt, Branches, no_branch, branch, Cases, no_case, case, Bounds, Scalars, Explicit, Assumed, Deferred, Entity, Procedure, Program}
+use Rattle.f95_unit.specs.Plain.{Expr, Bound, Span, Allocation, Assign, Where, masked, MaskedBody, no_masked, assigning, narrowed}
+use Rattle.f95_unit.specs.Plain.{Others, no_other, elsewhere, Triplet, Forall, call, Stmt, Assigns, Masks, ForAll, Calls, Allocate}
+use Rattle.f95_unit.specs.Plain.{Deallocate, Print, Read, If, Select, Do, While, Forever, Exit, Cycle, Return, Stop, Stmts, no_stmt}
+use Rattle.f95_unit.specs.Plain.{stmt, Branches, no_branch, branch, Cases, no_case, case, Bounds, Scalars, Explicit, Assumed}
+use Rattle.f95_unit.specs.Plain.{Deferred, Entity, Procedure, Program}
 use Rattle.array_meaning.specs.Values.{Value}
 use Rattle.array_meaning.specs.State.{State, Step, Substring, Variable, set_variable, store_all, turns_left, inside}
 use Rattle.array_meaning.specs.Sections.{Section}
 use Rattle.array_meaning.specs.Trees.{Tree, Passed, Caller}
 use Rattle.array_meaning.specs.Expressions.{procedure_at}
-use Rattle.array_meaning.specs.Assignments.{Control, with_truths, both, but_not, assigned, control_of, mask_truths, where_acts, masked_act, others_act, index_lists, active_of, active, one_combination, each_combination, indexed, forall_acts}
-use Rattle.array_meaning.specs.Control.{Flow, Next, Exits, Cycles, Returns, behind, behind_turn, one_turn, counted, while_true, dimensions, allocates, deallocates, ends, acts, all_act, branch_acts, case_acts}
-use Rattle.array_meaning.specs.Calls.{Actuals, passed_at, is_out, lower_bounds, bounds_act, own_acts, declaration_acts, declarations_act, initial_of, initial_acts, initials_act, body_acts, copy_back, copies_back, called}
-use Rattle.array_meaning.specs.Purity.{RefersBound, RefersMaybe, IsPure, IsPureFunction, PureAssign, PureWhere, PureMasked, PureOthers, PureTriplet, PureForall, PureSpan, PureAllocation, PureStmt, PureStmts, PureBranches, PureCases, PureBounds, PureEntity, KeepsPure, Still, TurnsAlone, Changes, PureCallsAreStill, PureFunctionsTakeTurns}
-use Rattle.array_meaning.proofs.Kept.{Preorder, Keeps, Any, CallsIn, keeps_then, keeps_next, keeps_choose, kept, keeps_fault, keeps_stop, keeps_unless, keeps_given, keeps_allocated, keeps_variable, keeps_turn, keeps_call, keeps_all, keeps_masked, keeps_prepare, keeps_actuals, keeps_designate, keeps_bound_or, keeps_evaluate, keeps_integer, keeps_truth}
+use Rattle.array_meaning.specs.Assignments.{Control, with_truths, both, but_not, assigned, control_of, mask_truths, where_acts}
+use Rattle.array_meaning.specs.Assignments.{masked_act, others_act, index_lists, active_of, active, one_combination}
+use Rattle.array_meaning.specs.Assignments.{each_combination, indexed, forall_acts}
+use Rattle.array_meaning.specs.Control.{Flow, Next, Exits, Cycles, Returns, behind, behind_turn, one_turn, counted, while_true}
+use Rattle.array_meaning.specs.Control.{dimensions, allocates, deallocates, ends, acts, all_act, branch_acts, case_acts}
+use Rattle.array_meaning.specs.Calls.{Actuals, passed_at, is_out, lower_bounds, bounds_act, own_acts, declaration_acts}
+use Rattle.array_meaning.specs.Calls.{declarations_act, initial_of, initial_acts, initials_act, body_acts, copy_back, copies_back}
+use Rattle.array_meaning.specs.Calls.{called}
+use Rattle.array_meaning.specs.Purity.{RefersBound, RefersMaybe, IsPure, IsPureFunction, PureAssign, PureWhere, PureMasked}
+use Rattle.array_meaning.specs.Purity.{PureOthers, PureTriplet, PureForall, PureSpan, PureAllocation, PureStmt, PureStmts}
+use Rattle.array_meaning.specs.Purity.{PureBranches, PureCases, PureBounds, PureEntity, KeepsPure, Still, TurnsAlone, Changes}
+use Rattle.array_meaning.specs.Purity.{PureCallsAreStill, PureFunctionsTakeTurns}
+use Rattle.array_meaning.proofs.Kept.{Preorder, Keeps, Any, CallsIn, keeps_then, keeps_next, keeps_choose, kept, keeps_fault}
+use Rattle.array_meaning.proofs.Kept.{keeps_stop, keeps_unless, keeps_given, keeps_allocated, keeps_variable, keeps_turn}
+use Rattle.array_meaning.proofs.Kept.{keeps_call, keeps_all, keeps_masked, keeps_prepare, keeps_actuals, keeps_designate}
+use Rattle.array_meaning.proofs.Kept.{keeps_bound_or, keeps_evaluate, keeps_integer, keeps_truth}
 
 -- ---- the two relations
 

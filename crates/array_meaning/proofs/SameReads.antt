@@ -1,6 +1,7 @@
 -- Two runs of a step, from states that differ in the elements of variables alone: if they agree on what is read, both come to the
 -- same, and take as many turns: one line a case.
-use Rattle.std.proofs.Common.{◌≡◌, refl, sym, ap, ◌∙◌, subst, ℕ, ℤ, pos, zero, suc, ◌+ℤ◌, ◌*ℤ◌, ◌≤◌, ◌<◌, Bool, true, false, List, [], ◌∷◌, ◌++◌, map, arith}
+use Rattle.std.proofs.Common.{◌≡◌, refl, sym, ap, ◌∙◌, subst, ℕ, ℤ, pos, zero, suc, ◌+ℤ◌, ◌*ℤ◌, ◌≤◌, ◌<◌, Bool, true, false, List}
+use Rattle.std.proofs.Common.{[], ◌∷◌, ◌++◌, map, arith}
 use Rattle.std.specs.Prelude.{Option, Some, None, is_some, slice_index_or, Result, Ok, Err}
 use Rattle.std.proofs.Math.Nat.{le_refl, le_trans}
 use Rattle.std.proofs.Math.IntN.{+ℤ_assoc, +ℤ_comm, suc_ℤ-*ℤ, zero-*ℤ, +ℤ_idr}
@@ -12,17 +13,29 @@ use Rattle.a95_base.specs.Steps.{Ran, pure, stop, behind, ◌>>=◌, ◌>>◌}
 use Rattle.f95_unit.specs.declared.operation.Inquiry.{Inquiry}
 use Rattle.f95_unit.specs.declared.operation.Inquiry.TheVariants as inquiry
 use Rattle.f95_unit.specs.declared.operation.Reduction.{Reduction}
-use Rattle.f95_unit.specs.Plain.{Expr, typed, Literal, Constant, Index, Named, Brackets, Unary, Binary, Constructor, Elementwise, Trim, Asked, Reduced, Rearranged, Called, Designator, at, Access, Whole, Subscripted, Subscripts, no_subscript, subscript, Subscript, One, Vector, SubscriptTriplet, Bound, Absent, Given, Part, AllOf, BytesOf, Items, no_item, value, loop, Arguments, no_argument, argument, Subject, Name, Of, call, Program}
+use Rattle.f95_unit.specs.Plain.{Expr, typed, Literal, Constant, Index, Named, Brackets, Unary, Binary, Constructor, Elementwise}
+use Rattle.f95_unit.specs.Plain.{Trim, Asked, Reduced, Rearranged, Called, Designator, at, Access, Whole, Subscripted, Subscripts}
+use Rattle.f95_unit.specs.Plain.{no_subscript, subscript, Subscript, One, Vector, SubscriptTriplet, Bound, Absent, Given, Part}
+use Rattle.f95_unit.specs.Plain.{AllOf, BytesOf, Items, no_item, value, loop, Arguments, no_argument, argument, Subject, Name, Of}
+use Rattle.f95_unit.specs.Plain.{call, Program}
 use Rattle.a95_base.specs.declared.scalar.Scalar.TheVariants as scalar
 use Rattle.array_meaning.specs.Values.{Value, length_of, scalar_value}
 use Rattle.array_meaning.specs.Scalars.{unary_like, binary_like, elemental_like}
-use Rattle.array_meaning.specs.State.{Dimension, counted_from_one, Array, Variable, State, Halt, Step, Substring, bytes_of, unless, choose, given, allocated_array, turn_from, turn, variable}
+use Rattle.array_meaning.specs.State.{Dimension, counted_from_one, Array, Variable, State, Halt, Step, Substring, bytes_of, unless}
+use Rattle.array_meaning.specs.State.{choose, given, allocated_array, turn_from, turn, variable}
 use Rattle.array_meaning.specs.Sections.{Picked, triplet_count, triplet_values, Section, section_value, placed, read_section}
 use Rattle.array_meaning.specs.Reductions.{inquired}
-use Rattle.array_meaning.specs.Trees.{Tree, Held, UnaryOf, BinaryOf, Each, CallEach, Trees, no_tree, tree, bracketed, Caller, Passed, shape, shapes, joined_shapes, like, likes, element, elements, all_from, pairs_from, whole, valued, passed, paired}
-use Rattle.array_meaning.specs.Expressions.{number_of_value, rounds, gathered, asked, prepare, trees, values, actuals, reduction_values, answer, designate, pick, pick_each, pick_one, bound_or, part_bounds, gather, evaluate}
-use Rattle.array_meaning.specs.Purity.{Refers, RefersArguments, RefersSubject, RefersDesignator, RefersAccess, RefersSubscripts, RefersSubscript, RefersBound, RefersPart, RefersItems}
-use Rattle.array_meaning.specs.Reads.{Either, Reads, ReadsArguments, ReadsSubject, ReadsForShape, ReadsArgumentsForShape, ReadsToName, ReadsAccess, ReadsSubscripts, ReadsSubscript, ReadsBound, ReadsPart, ReadsItems, SeesActualsAlone, ArraysAgree, VariablesAgree, AllAgree, PartsComeOfReads, ValuesComeOfReads}
+use Rattle.array_meaning.specs.Trees.{Tree, Held, UnaryOf, BinaryOf, Each, CallEach, Trees, no_tree, tree, bracketed, Caller}
+use Rattle.array_meaning.specs.Trees.{Passed, shape, shapes, joined_shapes, like, likes, element, elements, all_from, pairs_from}
+use Rattle.array_meaning.specs.Trees.{whole, valued, passed, paired}
+use Rattle.array_meaning.specs.Expressions.{number_of_value, rounds, gathered, asked, prepare, trees, values, actuals}
+use Rattle.array_meaning.specs.Expressions.{reduction_values, answer, designate, pick, pick_each, pick_one, bound_or, part_bounds}
+use Rattle.array_meaning.specs.Expressions.{gather, evaluate}
+use Rattle.array_meaning.specs.Purity.{Refers, RefersArguments, RefersSubject, RefersDesignator, RefersAccess, RefersSubscripts}
+use Rattle.array_meaning.specs.Purity.{RefersSubscript, RefersBound, RefersPart, RefersItems}
+use Rattle.array_meaning.specs.Reads.{Either, Reads, ReadsArguments, ReadsSubject, ReadsForShape, ReadsArgumentsForShape}
+use Rattle.array_meaning.specs.Reads.{ReadsToName, ReadsAccess, ReadsSubscripts, ReadsSubscript, ReadsBound, ReadsPart, ReadsItems}
+use Rattle.array_meaning.specs.Reads.{SeesActualsAlone, ArraysAgree, VariablesAgree, AllAgree, PartsComeOfReads, ValuesComeOfReads}
 use Rattle.array_meaning.proofs.Kept.{CallsIn, CallsInAll}
 use Rattle.array_meaning.proofs.Wholeness.{Gives}
 use Rattle.array_meaning.proofs.Ignored.{calls_of}

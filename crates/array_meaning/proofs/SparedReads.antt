@@ -1,6 +1,7 @@
 -- A store leaves what stands elsewhere, so what reads elsewhere comes to the same; a call of a pure function sees its actuals
 -- alone.
-use Rattle.std.proofs.Common.{◌≡◌, refl, sym, ap, ◌∙◌, subst, inl, inr, ℕ, zero, suc, Bool, true, false, ◌&&◌, ◌||◌, List, [], ◌∷◌, length}
+use Rattle.std.proofs.Common.{◌≡◌, refl, sym, ap, ◌∙◌, subst, inl, inr, ℕ, zero, suc, Bool, true, false, ◌&&◌, ◌||◌, List, [], ◌∷◌}
+use Rattle.std.proofs.Common.{length}
 use Rattle.std.specs.Prelude.{Option, Some, None, nat_eq, slice_index_or, slice_set, Result, Ok, Err}
 use Rattle.std.specs.List.{list_any}
 use Rattle.std.proofs.lemmas.Bool.{cases_eq, cases_lt, eq-eqb, eqb-false, not-true}
@@ -11,12 +12,14 @@ use Rattle.a95_base.specs.declared.scalar.Scalar.{Scalar}
 use Rattle.a95_base.specs.Lists.{Every}
 use Rattle.a95_base.specs.Steps.{Ran, pure, stop, behind, ◌>>=◌, ◌>>◌}
 use Rattle.f95_unit.specs.Plain.{Entity, Program}
-use Rattle.array_meaning.specs.State.{Array, Variable, no_variable, State, Halt, Step, Substring, changed, with_stored, held_after, stored_in, fault_at, unless, turn_from, turn, set_variable, store_all, inside}
+use Rattle.array_meaning.specs.State.{Array, Variable, no_variable, State, Halt, Step, Substring, changed, with_stored, held_after}
+use Rattle.array_meaning.specs.State.{stored_in, fault_at, unless, turn_from, turn, set_variable, store_all, inside}
 use Rattle.array_meaning.specs.Sections.{Section}
 use Rattle.array_meaning.specs.Expressions.{evaluate, procedure_at}
 use Rattle.array_meaning.specs.Calls.{Actuals, is_out, body_acts, copy_back, copies_back, called}
 use Rattle.array_meaning.specs.Purity.{HasNoOut}
-use Rattle.array_meaning.specs.Reads.{ArraysAgree, VariablesAgree, AllAgree, SameWith, PureFunctionsSeeActuals, is_spared, ValuesIgnoreStores}
+use Rattle.array_meaning.specs.Reads.{ArraysAgree, VariablesAgree, AllAgree, SameWith, PureFunctionsSeeActuals, is_spared}
+use Rattle.array_meaning.specs.Reads.{ValuesIgnoreStores}
 use Rattle.array_meaning.proofs.SameReads.{evaluates_alike, values_come_of_reads}
 use Rattle.array_meaning.proofs.PureCalls.{pure_functions_take_turns}
 

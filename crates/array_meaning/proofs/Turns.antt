@@ -6,7 +6,9 @@ use Rattle.a95_base.specs.declared.fault.FaultKind.{FaultKind}
 use Rattle.a95_base.specs.declared.scalar.Scalar.{Scalar}
 use Rattle.a95_base.specs.Steps.{Ran, pure, stop, behind, ◌>>=◌, ◌>>◌}
 use Rattle.a95_base.specs.Outcome.{IsPrefix}
-use Rattle.array_meaning.specs.State.{State, Halt, Stopped, Faults, OutOfTurns, Step, Array, Variable, fault_at, unless, choose, given, allocated_array, turn_from, turn, turns_left, variable, set_variable, Substring, store_all, put, unread, pass, back_to, inside}
+use Rattle.array_meaning.specs.State.{State, Halt, Stopped, Faults, OutOfTurns, Step, Array, Variable, fault_at, unless, choose}
+use Rattle.array_meaning.specs.State.{given, allocated_array, turn_from, turn, turns_left, variable, set_variable, Substring}
+use Rattle.array_meaning.specs.State.{store_all, put, unread, pass, back_to, inside}
 
 -- ---- prefixes
 
@@ -140,8 +142,10 @@ steady_pass n = steady_by (λ s. (refl, refl)) (λ s. prefix_refl s.written)
 
 pub grows_choose : {A : Type 0} (b : Bool) {m m' n n' : Step A} → Grows m m' → Grows n n' → Grows (choose b m n) (choose b m' n')
 unfolding choose
-grows_choose true h g = record { grows = h.grows; first = record { tells = h.first.tells }; second = record { tells = h.second.tells } }
-grows_choose false h g = record { grows = g.grows; first = record { tells = g.first.tells }; second = record { tells = g.second.tells } }
+grows_choose true h g =
+    record { grows = h.grows; first = record { tells = h.first.tells }; second = record { tells = h.second.tells } }
+grows_choose false h g =
+    record { grows = g.grows; first = record { tells = g.first.tells }; second = record { tells = g.second.tells } }
 
 -- ---- turns
 

@@ -5,13 +5,21 @@ use Rattle.a95_base.specs.declared.scalar.Scalar.{Scalar}
 use Rattle.f95_unit.specs.declared.operation.Inquiry.{Inquiry}
 use Rattle.f95_unit.specs.declared.operation.Inquiry.TheVariants as inquiry
 use Rattle.f95_unit.specs.declared.operation.Reduction.{Reduction}
-use Rattle.f95_unit.specs.Plain.{Expr, typed, Literal, Constant, Index, Named, Brackets, Unary, Binary, Constructor, Elementwise, Trim, Asked, Reduced, Rearranged, Called, Designator, at, Access, Whole, Subscripted, Subscripts, no_subscript, subscript, Subscript, One, Vector, SubscriptTriplet, Bound, Absent, Given, Part, AllOf, BytesOf, Items, no_item, value, loop, Arguments, no_argument, argument, Subject, Name, Of, call, Program}
+use Rattle.f95_unit.specs.Plain.{Expr, typed, Literal, Constant, Index, Named, Brackets, Unary, Binary, Constructor, Elementwise}
+use Rattle.f95_unit.specs.Plain.{Trim, Asked, Reduced, Rearranged, Called, Designator, at, Access, Whole, Subscripted, Subscripts}
+use Rattle.f95_unit.specs.Plain.{no_subscript, subscript, Subscript, One, Vector, SubscriptTriplet, Bound, Absent, Given, Part}
+use Rattle.f95_unit.specs.Plain.{AllOf, BytesOf, Items, no_item, value, loop, Arguments, no_argument, argument, Subject, Name, Of}
+use Rattle.f95_unit.specs.Plain.{call, Program}
 use Rattle.array_meaning.specs.Values.{Value}
 use Rattle.array_meaning.specs.State.{Dimension, Array, Variable, Step}
 use Rattle.array_meaning.specs.Sections.{Picked, Section, placed, read_section}
-use Rattle.array_meaning.specs.Trees.{Tree, Held, UnaryOf, BinaryOf, Each, CallEach, Trees, no_tree, tree, Passed, Caller, element, elements, all_from, masked_from, pairs_from, whole, valued, passed, paired}
-use Rattle.array_meaning.specs.Expressions.{number_of_value, rounds, gathered, asked, prepare, trees, values, actuals, reduction_values, answer, designate, pick, pick_each, pick_one, bound_or, part_bounds, gather, evaluate, integer, truth}
-use Rattle.array_meaning.proofs.Turns.{Steady, grows_then, grows_next, steady_pure, steady_unless, steady_given, steady_allocated, steady_variable, steady_turn, grows_choose}
+use Rattle.array_meaning.specs.Trees.{Tree, Held, UnaryOf, BinaryOf, Each, CallEach, Trees, no_tree, tree, Passed, Caller, element}
+use Rattle.array_meaning.specs.Trees.{elements, all_from, masked_from, pairs_from, whole, valued, passed, paired}
+use Rattle.array_meaning.specs.Expressions.{number_of_value, rounds, gathered, asked, prepare, trees, values, actuals}
+use Rattle.array_meaning.specs.Expressions.{reduction_values, answer, designate, pick, pick_each, pick_one, bound_or, part_bounds}
+use Rattle.array_meaning.specs.Expressions.{gather, evaluate, integer, truth}
+use Rattle.array_meaning.proofs.Turns.{Steady, grows_then, grows_next, steady_pure, steady_unless, steady_given, steady_allocated}
+use Rattle.array_meaning.proofs.Turns.{steady_variable, steady_turn, grows_choose}
 
 -- what is done to a call that is compared with itself
 abbrev pub SteadyCalls : Caller → Type 0

@@ -7,20 +7,33 @@ use Rattle.a95_base.specs.Outcome.{Stop as Ending, Outcome, Finished, Going, Run
 use Rattle.f95_unit.specs.declared.unit.DeclaredType.{DeclaredType}
 use Rattle.f95_unit.specs.declared.unit.Role.{Role}
 use Rattle.f95_unit.specs.declared.unit.Role.TheVariants as role
-use Rattle.f95_unit.specs.Plain.{Expr, Bound, Span, Allocation, Target, Assign, Where, masked, MaskedBody, no_masked, assigning, narrowed, Others, no_other, elsewhere, Triplet, Forall, call, Stmt, Assigns, Masks, ForAll, Calls, Allocate, Deallocate, Print, Read, If, Select, Do, While, Forever, Exit, Cycle, Return, Stop, Stmts, no_stmt, stmt, Branches, no_branch, branch, Cases, no_case, case, Bounds, Scalars, Explicit, Assumed, Deferred, Entity, Procedure, Program}
+use Rattle.f95_unit.specs.Plain.{Expr, Bound, Span, Allocation, Target, Assign, Where, masked, MaskedBody, no_masked, assigning}
+use Rattle.f95_unit.specs.Plain.{narrowed, Others, no_other, elsewhere, Triplet, Forall, call, Stmt, Assigns, Masks, ForAll, Calls}
+use Rattle.f95_unit.specs.Plain.{Allocate, Deallocate, Print, Read, If, Select, Do, While, Forever, Exit, Cycle, Return, Stop}
+use Rattle.f95_unit.specs.Plain.{Stmts, no_stmt, stmt, Branches, no_branch, branch, Cases, no_case, case, Bounds, Scalars, Explicit}
+use Rattle.f95_unit.specs.Plain.{Assumed, Deferred, Entity, Procedure, Program}
 use Rattle.array_meaning.specs.Values.{Value}
 use Rattle.array_meaning.specs.State.{State, Halt, Stopped, Faults, OutOfTurns, Step, Substring, Variable}
 use Rattle.array_meaning.specs.Sections.{Section}
 use Rattle.array_meaning.specs.Trees.{Tree, Caller}
 use Rattle.array_meaning.specs.Expressions.{procedure_at}
-use Rattle.array_meaning.specs.Assignments.{Control, with_truths, both, but_not, assigned, control_of, mask_truths, where_acts, masked_act, others_act, index_lists, active_of, active, one_combination, each_combination, indexed, forall_acts}
+use Rattle.array_meaning.specs.Assignments.{Control, with_truths, both, but_not, assigned, control_of, mask_truths, where_acts}
+use Rattle.array_meaning.specs.Assignments.{masked_act, others_act, index_lists, active_of, active, one_combination}
+use Rattle.array_meaning.specs.Assignments.{each_combination, indexed, forall_acts}
 use Rattle.array_meaning.specs.InputOutput.{taken, next_integer, read_places, skip_record, printed, prints, read_items, reads}
-use Rattle.array_meaning.specs.Control.{Flow, Next, Exits, Cycles, Returns, behind, behind_turn, one_turn, counted, while_true, dimensions, allocates, deallocates, ends, acts, all_act, branch_acts, case_acts}
-use Rattle.array_meaning.specs.Calls.{Actuals, passed_at, lower_bounds, bounds_act, own_acts, declaration_acts, declarations_act, initial_of, initial_acts, initials_act, body_acts, copy_back, copies_back, entered, called}
+use Rattle.array_meaning.specs.Control.{Flow, Next, Exits, Cycles, Returns, behind, behind_turn, one_turn, counted, while_true}
+use Rattle.array_meaning.specs.Control.{dimensions, allocates, deallocates, ends, acts, all_act, branch_acts, case_acts}
+use Rattle.array_meaning.specs.Calls.{Actuals, passed_at, lower_bounds, bounds_act, own_acts, declaration_acts, declarations_act}
+use Rattle.array_meaning.specs.Calls.{initial_of, initial_acts, initials_act, body_acts, copy_back, copies_back, entered, called}
 use Rattle.array_meaning.specs.Run.{most_calls, start, outcome_of, run_of, main_acts, source_run}
 use Rattle.array_meaning.specs.RunLaws.{StaysBy, Stays, MoreTurns}
-use Rattle.array_meaning.proofs.Turns.{prefix_refl, prefix_trans, SameBy, Steady, Grows, grows_then, grows_next, steady_pure, steady_fault, steady_stopped, steady_unless, steady_given, steady_allocated, steady_variable, steady_set, steady_store, steady_put, steady_unread, steady_pass, grows_choose, steady_turn, grows_waits, tells_waits, steady_turns_left, grows_inside}
-use Rattle.array_meaning.proofs.TurnsOfExpressions.{SteadyCalls, steady_all, steady_masked, steady_prepare, steady_actuals, steady_designate, steady_bound_or, steady_evaluate, steady_integer, steady_truth}
+use Rattle.array_meaning.proofs.Turns.{prefix_refl, prefix_trans, SameBy, Steady, Grows, grows_then, grows_next, steady_pure}
+use Rattle.array_meaning.proofs.Turns.{steady_fault, steady_stopped, steady_unless, steady_given, steady_allocated, steady_variable}
+use Rattle.array_meaning.proofs.Turns.{steady_set, steady_store, steady_put, steady_unread, steady_pass, grows_choose, steady_turn}
+use Rattle.array_meaning.proofs.Turns.{grows_waits, tells_waits, steady_turns_left, grows_inside}
+use Rattle.array_meaning.proofs.TurnsOfExpressions.{SteadyCalls, steady_all, steady_masked, steady_prepare, steady_actuals}
+use Rattle.array_meaning.proofs.TurnsOfExpressions.{steady_designate, steady_bound_or, steady_evaluate, steady_integer}
+use Rattle.array_meaning.proofs.TurnsOfExpressions.{steady_truth}
 
 module _ (unit : Program) (calls : Caller) (same : SteadyCalls calls) where
   -- ---- assignments

@@ -1,13 +1,15 @@
 -- Assignments: the parts of the right side, those of the left side, the shapes, the test for an element that is stored into
 -- twice, all elements, then all stores. WHERE does that at the true places of a mask, FORALL for all its indices before any store.
-use Rattle.std.specs.Prelude.{ℕ, ℤ, pos, ◌*◌, Bool, true, false, not, ◌&&◌, nat_le, if◌then◌else◌, Option, Some, None, List, [], ◌∷◌, ◌++◌, map, length, replicate, zip, filter_map, Result, Ok, Err}
+use Rattle.std.specs.Prelude.{ℕ, ℤ, pos, ◌*◌, Bool, true, false, not, ◌&&◌, nat_le, if◌then◌else◌, Option, Some, None, List, []}
+use Rattle.std.specs.Prelude.{◌∷◌, ◌++◌, map, length, replicate, zip, filter_map, Result, Ok, Err}
 use Rattle.std.specs.Ordering.{int_eq}
 use Rattle.a95_base.specs.declared.fault.FaultKind.{FaultKind}
 use Rattle.a95_base.specs.declared.fault.FaultKind.TheVariants as fault
 use Rattle.a95_base.specs.declared.scalar.Scalar.{Scalar}
 use Rattle.a95_base.specs.Steps.{pure, ◌>>=◌, ◌>>◌}
 use Rattle.a95_base.specs.Limits.{most_elements}
-use Rattle.f95_unit.specs.Plain.{Expr, Designator, at, Assign, Where, masked, MaskedBody, no_masked, assigning, narrowed, Others, no_other, elsewhere, Triplet, Forall, Program}
+use Rattle.f95_unit.specs.Plain.{Expr, Designator, at, Assign, Where, masked, MaskedBody, no_masked, assigning, narrowed, Others}
+use Rattle.f95_unit.specs.Plain.{no_other, elsewhere, Triplet, Forall, Program}
 use Rattle.array_meaning.specs.Values.{size_of, is_scalar, is_shape, choices, truth_of}
 use Rattle.array_meaning.specs.State.{Step, unless, given, store_all}
 use Rattle.array_meaning.specs.Sections.{triplet_values, is_one_one}

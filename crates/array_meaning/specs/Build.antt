@@ -9,7 +9,8 @@ use Rattle.a95_base.specs.Outcome.{Stop, Ended, Faulted, Finished, Going, Run}
 use Rattle.f95_unit.specs.declared.facts.Facts.{Facts}
 use Rattle.f95_unit.specs.declared.unit.DeclaredType.{DeclaredType}
 use Rattle.f95_unit.specs.declared.unit.Role.{Role}
-use Rattle.f95_unit.specs.Plain.{Expr, typed, Literal, Constant, Index, Bound, Bounds, Designator, Target, Assign, Triplet, Forall, Span, Allocation, Stmts, Entity, Procedure, Program}
+use Rattle.f95_unit.specs.Plain.{Expr, typed, Literal, Constant, Index, Bound, Bounds, Designator, Target, Assign, Triplet, Forall}
+use Rattle.f95_unit.specs.Plain.{Span, Allocation, Stmts, Entity, Procedure, Program}
 use Rattle.array_meaning.specs.InputOutput.{record_of}
 use Rattle.array_meaning.specs.Run.{source_run}
 
@@ -71,7 +72,16 @@ entity line of bounds role initial = record { line = line; of = of; bounds = bou
 
 abbrev pub procedure : ℕ → Bool → Bool → Bool → List Entity → Option ℕ → Stmts → Procedure
 procedure line recursive pure elemental entities result body =
-    record { line = line; recursive = recursive; pure = pure; elemental = elemental; entities = entities; result = result; body = body }
+    record {
+      line = line;
+      recursive = recursive;
+      pure = pure;
+      elemental = elemental;
+      entities = entities;
+      result = result;
+      body =
+          body;
+    }
 
 abbrev pub program : List Scalar → Procedure → List Procedure → Program
 program constants main procedures = record { constants = constants; main = main; procedures = procedures }

@@ -1,6 +1,7 @@
 -- Procedure calls: the test for actuals that overlap, the depth, a turn, the callee's declarations, its statements, and the
 -- values of OUT and INOUT dummies back into the places that their actuals named.
-use Rattle.std.specs.Prelude.{ℕ, ℤ, pos, zero, suc, ◌+ℤ◌, ◌-ℤ◌, Bool, true, false, not, ◌&&◌, ◌||◌, nat_eq, nat_le, if◌then◌else◌, Option, Some, None, List, [], ◌∷◌, map, zip, slice_index_or}
+use Rattle.std.specs.Prelude.{ℕ, ℤ, pos, zero, suc, ◌+ℤ◌, ◌-ℤ◌, Bool, true, false, not, ◌&&◌, ◌||◌, nat_eq, nat_le, if◌then◌else◌}
+use Rattle.std.specs.Prelude.{Option, Some, None, List, [], ◌∷◌, map, zip, slice_index_or}
 use Rattle.std.specs.List.{list_all, list_any}
 use Rattle.a95_base.specs.declared.fault.FaultKind.TheVariants as fault
 use Rattle.a95_base.specs.declared.scalar.Scalar.{Scalar}
@@ -12,9 +13,11 @@ use Rattle.f95_unit.specs.declared.unit.Length.TheVariants as long
 use Rattle.f95_unit.specs.declared.unit.Role.{Role}
 use Rattle.f95_unit.specs.declared.unit.Role.TheVariants as role
 use Rattle.f95_unit.specs.declared.unit.Intent.TheVariants as intent
-use Rattle.f95_unit.specs.Plain.{Expr, at, Whole, AllOf, Bound, Bounds, Scalars, Explicit, Assumed, Entity, Procedure, Assign, Program}
+use Rattle.f95_unit.specs.Plain.{Expr, at, Whole, AllOf, Bound, Bounds, Scalars, Explicit, Assumed, Entity, Procedure, Assign}
+use Rattle.f95_unit.specs.Plain.{Program}
 use Rattle.array_meaning.specs.Values.{Value, nothing, length_of, blank_like, scalar_value, size_of, is_shape}
-use Rattle.array_meaning.specs.State.{Dimension, dimension, extents_of, counted_from_one, Array, Variable, no_variable, Step, unless, fault_at, turn, variable, set_variable, fresh, store_all, inside}
+use Rattle.array_meaning.specs.State.{Dimension, dimension, extents_of, counted_from_one, Array, Variable, no_variable, Step}
+use Rattle.array_meaning.specs.State.{unless, fault_at, turn, variable, set_variable, fresh, store_all, inside}
 use Rattle.array_meaning.specs.Sections.{Section}
 use Rattle.array_meaning.specs.Trees.{Caller, Passed, passed_value}
 use Rattle.array_meaning.specs.Expressions.{facts_of, blank_of_type, procedure_at, bound_or}

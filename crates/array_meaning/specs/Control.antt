@@ -1,5 +1,6 @@
 -- Statements: choices, loops and what leaves them, allocation, and the statements of the other files.
-use Rattle.std.specs.Prelude.{ℕ, ℤ, pos, zero, suc, ◌+ℤ◌, Bool, true, not, ◌&&◌, nat_le, None, is_some, List, [], ◌∷◌, slice_index_or}
+use Rattle.std.specs.Prelude.{ℕ, ℤ, pos, zero, suc, ◌+ℤ◌, Bool, true, not, ◌&&◌, nat_le, None, is_some, List, [], ◌∷◌}
+use Rattle.std.specs.Prelude.{slice_index_or}
 use Rattle.std.specs.List.{list_any}
 use Rattle.std.specs.Ordering.{int_eq, is_eq, is_le, is_ge}
 use Rattle.a95_base.specs.declared.fault.FaultKind.TheVariants as fault
@@ -10,10 +11,13 @@ use Rattle.a95_base.specs.Integer.{wrapped}
 use Rattle.a95_base.specs.Limits.{most_elements}
 use Rattle.f95_unit.specs.declared.stmt.Range.{Range}
 use Rattle.f95_unit.specs.declared.stmt.Range.TheVariants as range
-use Rattle.f95_unit.specs.Plain.{Span, Allocation, call, Stmt, Assigns, Masks, ForAll, Calls, Allocate, Deallocate, Print, Read, If, Select, Do, While, Forever, Exit, Cycle, Return, Stop, Stmts, no_stmt, stmt, Branches, no_branch, branch, Cases, no_case, case, Program}
+use Rattle.f95_unit.specs.Plain.{Span, Allocation, call, Stmt, Assigns, Masks, ForAll, Calls, Allocate, Deallocate, Print, Read, If}
+use Rattle.f95_unit.specs.Plain.{Select, Do, While, Forever, Exit, Cycle, Return, Stop, Stmts, no_stmt, stmt, Branches, no_branch}
+use Rattle.f95_unit.specs.Plain.{branch, Cases, no_case, case, Program}
 use Rattle.array_meaning.specs.Values.{nothing, only, size_of}
 use Rattle.array_meaning.specs.Scalars.{compared, is_equivalent}
-use Rattle.array_meaning.specs.State.{Dimension, dimension, extents_of, Stopped, OutOfTurns, Step, unless, choose, allocated_array, turn, turns_left, variable, set_variable, store_one, fresh}
+use Rattle.array_meaning.specs.State.{Dimension, dimension, extents_of, Stopped, OutOfTurns, Step, unless, choose, allocated_array}
+use Rattle.array_meaning.specs.State.{turn, turns_left, variable, set_variable, store_one, fresh}
 use Rattle.array_meaning.specs.Sections.{triplet_count}
 use Rattle.array_meaning.specs.Trees.{Caller}
 use Rattle.array_meaning.specs.Expressions.{evaluate, integer, truth, bound_or, actuals}

@@ -9,11 +9,15 @@ use Rattle.f95_unit.specs.declared.operation.Reduction.TheVariants as reduction
 use Rattle.f95_unit.specs.declared.operation.Rearranging.TheVariants as rearranging
 use Rattle.f95_unit.specs.declared.unit.DeclaredType.TheVariants as declared
 use Rattle.f95_unit.specs.declared.unit.Role.TheVariants as role
-use Rattle.f95_unit.specs.Plain.{Expr, typed, Named, Asked, Of, Unary, Binary, Constructor, Elementwise, Reduced, Rearranged, at, Whole, Subscripted, no_subscript, subscript, One, Vector, SubscriptTriplet, Absent, Given, AllOf, no_item, value, no_argument, argument, masked, no_masked, assigning, no_other, elsewhere, Assigns, Masks, ForAll, Print, Do, no_stmt, stmt, Scalars, Explicit, Program}
+use Rattle.f95_unit.specs.Plain.{Expr, typed, Named, Asked, Of, Unary, Binary, Constructor, Elementwise, Reduced, Rearranged, at}
+use Rattle.f95_unit.specs.Plain.{Whole, Subscripted, no_subscript, subscript, One, Vector, SubscriptTriplet, Absent, Given, AllOf}
+use Rattle.f95_unit.specs.Plain.{no_item, value, no_argument, argument, masked, no_masked, assigning, no_other, elsewhere, Assigns}
+use Rattle.f95_unit.specs.Plain.{Masks, ForAll, Print, Do, no_stmt, stmt, Scalars, Explicit, Program}
 use Rattle.array_meaning.specs.State.{State, dimension, fresh}
 use Rattle.array_meaning.specs.Trees.{Caller}
 use Rattle.array_meaning.specs.Reads.{Reads, is_spared}
-use Rattle.array_meaning.specs.Build.{ints, logs, texts, int, index_at, target, assign, triplet, forall_over, span, entity, procedure, program, num, ended, faulted, going, Comes}
+use Rattle.array_meaning.specs.Build.{ints, logs, texts, int, index_at, target, assign, triplet, forall_over, span, entity}
+use Rattle.array_meaning.specs.Build.{procedure, program, num, ended, faulted, going, Comes}
 
 --     program p
 --     integer :: a(5)

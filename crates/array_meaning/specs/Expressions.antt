@@ -1,7 +1,8 @@
 -- The parts of an expression, each once, in the order of the text, an inner part before the one that contains it: subscripts,
 -- bounds and scalar array elements, constructors, references to functions that aren't elemental, and references whose value is a
 -- scalar. What is left is the element tree. An array designator is tested and read at its place among the parts.
-use Rattle.std.specs.Prelude.{ℕ, ℤ, pos, zero, suc, ◌+ℤ◌, Bool, true, false, not, ◌&&◌, nat_le, Option, Some, None, is_some, List, [], ◌∷◌, ◌++◌, map, length, slice_index_or}
+use Rattle.std.specs.Prelude.{ℕ, ℤ, pos, zero, suc, ◌+ℤ◌, Bool, true, false, not, ◌&&◌, nat_le, Option, Some, None, is_some, List}
+use Rattle.std.specs.Prelude.{[], ◌∷◌, ◌++◌, map, length, slice_index_or}
 use Rattle.std.specs.Ordering.{int_eq}
 use Rattle.a95_base.specs.declared.fault.FaultKind.TheVariants as fault
 use Rattle.a95_base.specs.declared.scalar.Scalar.{Scalar}
@@ -18,14 +19,21 @@ use Rattle.f95_unit.specs.declared.operation.Reduction.TheVariants as reduction
 use Rattle.f95_unit.specs.declared.unit.DeclaredType.{DeclaredType}
 use Rattle.f95_unit.specs.declared.unit.DeclaredType.TheVariants as declared
 use Rattle.f95_unit.specs.declared.unit.Length.TheVariants as long
-use Rattle.f95_unit.specs.Plain.{Expr, typed, Literal, Constant, Index, Named, Brackets, Unary, Binary, Constructor, Elementwise, Trim, Asked, Reduced, Rearranged, Called, Designator, at, Access, Whole, Subscripted, Subscripts, no_subscript, subscript, Subscript, One, Vector, SubscriptTriplet, Bound, Absent, Given, Part, AllOf, BytesOf, Items, no_item, value, loop, Arguments, no_argument, argument, Subject, Name, Of, call, no_stmt, Entity, Procedure, Program}
-use Rattle.array_meaning.specs.Values.{Value, nothing, integer_of, truth_of, text_of, length_of, blank_of, scalar_value, vector_value, only}
+use Rattle.f95_unit.specs.Plain.{Expr, typed, Literal, Constant, Index, Named, Brackets, Unary, Binary, Constructor, Elementwise}
+use Rattle.f95_unit.specs.Plain.{Trim, Asked, Reduced, Rearranged, Called, Designator, at, Access, Whole, Subscripted, Subscripts}
+use Rattle.f95_unit.specs.Plain.{no_subscript, subscript, Subscript, One, Vector, SubscriptTriplet, Bound, Absent, Given, Part}
+use Rattle.f95_unit.specs.Plain.{AllOf, BytesOf, Items, no_item, value, loop, Arguments, no_argument, argument, Subject, Name, Of}
+use Rattle.f95_unit.specs.Plain.{call, no_stmt, Entity, Procedure, Program}
+use Rattle.array_meaning.specs.Values.{Value, nothing, integer_of, truth_of, text_of, length_of, blank_of, scalar_value}
+use Rattle.array_meaning.specs.Values.{vector_value, only}
 use Rattle.array_meaning.specs.Scalars.{elemental_of}
-use Rattle.array_meaning.specs.State.{Dimension, counted_from_one, Variable, Step, unless, choose, given, allocated_array, turn, variable}
+use Rattle.array_meaning.specs.State.{Dimension, counted_from_one, Variable, Step, unless, choose, given, allocated_array, turn}
+use Rattle.array_meaning.specs.State.{variable}
 use Rattle.array_meaning.specs.Sections.{Picked, Single, Listed, Stepped, triplet_count, all_picked, Section, placed, read_section}
 use Rattle.array_meaning.specs.Reductions.{inquired, reduction_of}
 use Rattle.array_meaning.specs.Rearrangements.{rearrangement_of}
-use Rattle.array_meaning.specs.Trees.{Tree, Held, UnaryOf, BinaryOf, Each, CallEach, Trees, no_tree, tree, held, bracketed, Passed, Caller, shape, like, valued, passed, paired}
+use Rattle.array_meaning.specs.Trees.{Tree, Held, UnaryOf, BinaryOf, Each, CallEach, Trees, no_tree, tree, held, bracketed, Passed}
+use Rattle.array_meaning.specs.Trees.{Caller, shape, like, valued, passed, paired}
 
 -- ---- what an expression carries
 

@@ -1,10 +1,15 @@
 -- The places that an expression reads. Its value depends on nothing else that the elements of variables are: on their bounds,
 -- their lengths, and whether they are allocated, and on the elements at the places that it reads.
-use Rattle.std.specs.Prelude.{◌≡◌, ℕ, ℤ, pos, ◌≤◌, Bool, true, false, not, ◌&&◌, nat_eq, Option, Some, None, List, [], ◌++◌, ◌∷◌, slice_index_or, Ok}
+use Rattle.std.specs.Prelude.{◌≡◌, ℕ, ℤ, pos, ◌≤◌, Bool, true, false, not, ◌&&◌, nat_eq, Option, Some, None, List, [], ◌++◌, ◌∷◌}
+use Rattle.std.specs.Prelude.{slice_index_or, Ok}
 use Rattle.std.specs.List.{list_any}
 use Rattle.a95_base.specs.declared.scalar.Scalar.{Scalar}
 use Rattle.a95_base.specs.Lists.{Every}
-use Rattle.f95_unit.specs.Plain.{Expr, typed, Literal, Constant, Index, Named, Brackets, Unary, Binary, Constructor, Elementwise, Trim, Asked, Reduced, Rearranged, Called, Designator, at, Access, Whole, Subscripted, Subscripts, no_subscript, subscript, Subscript, One, Vector, SubscriptTriplet, Bound, Absent, Given, Part, AllOf, BytesOf, Items, no_item, value, loop, Arguments, no_argument, argument, Subject, Name, Of, call, Program}
+use Rattle.f95_unit.specs.Plain.{Expr, typed, Literal, Constant, Index, Named, Brackets, Unary, Binary, Constructor, Elementwise}
+use Rattle.f95_unit.specs.Plain.{Trim, Asked, Reduced, Rearranged, Called, Designator, at, Access, Whole, Subscripted, Subscripts}
+use Rattle.f95_unit.specs.Plain.{no_subscript, subscript, Subscript, One, Vector, SubscriptTriplet, Bound, Absent, Given, Part}
+use Rattle.f95_unit.specs.Plain.{AllOf, BytesOf, Items, no_item, value, loop, Arguments, no_argument, argument, Subject, Name, Of}
+use Rattle.f95_unit.specs.Plain.{call, Program}
 use Rattle.array_meaning.specs.State.{Array, Variable, no_variable, State, Step, Substring, store_all}
 use Rattle.array_meaning.specs.Sections.{triplet_values}
 use Rattle.array_meaning.specs.Trees.{Passed, Caller}

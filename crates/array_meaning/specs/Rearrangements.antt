@@ -1,5 +1,7 @@
 -- The functions that put elements into other places: each says which element stands at a place of the result.
-use Rattle.std.specs.Prelude.{ℕ, ℤ, pos, suc, ◌-◌, ◌%◌, ◌+ℤ◌, Bool, true, false, not, ◌&&◌, ◌||◌, nat_eq, nat_lt, int_lt, int_le, unsigned_abs, if◌then◌else◌, Option, Some, None, List, [], ◌++◌, map, length, filter, take, drop, reverse, slice_index_or, Result, Ok, Err}
+use Rattle.std.specs.Prelude.{ℕ, ℤ, pos, suc, ◌-◌, ◌%◌, ◌+ℤ◌, Bool, true, false, not, ◌&&◌, ◌||◌, nat_eq, nat_lt, int_lt, int_le}
+use Rattle.std.specs.Prelude.{unsigned_abs, if◌then◌else◌, Option, Some, None, List, [], ◌++◌, map, length, filter, take, drop}
+use Rattle.std.specs.Prelude.{reverse, slice_index_or, Result, Ok, Err}
 use Rattle.std.specs.List.{list_all, list_any}
 use Rattle.std.specs.Int.{int_rem_euclid}
 use Rattle.std.specs.Ordering.{int_eq}
@@ -9,7 +11,9 @@ use Rattle.a95_base.specs.declared.scalar.Scalar.{Scalar}
 use Rattle.a95_base.specs.Lists.{count_to}
 use Rattle.f95_unit.specs.declared.operation.Rearranging.{Rearranging}
 use Rattle.f95_unit.specs.declared.operation.Rearranging.TheVariants as rearranging
-use Rattle.array_meaning.specs.Values.{Value, nothing, integer_of, truth_of, blank_like, scalar_value, vector_value, size_of, element_of, only, places, number_of, at_place, by_place, entry, without, with_entry, joint, within_limit, argument_of, has_argument}
+use Rattle.array_meaning.specs.Values.{Value, nothing, integer_of, truth_of, blank_like, scalar_value, vector_value, size_of}
+use Rattle.array_meaning.specs.Values.{element_of, only, places, number_of, at_place, by_place, entry, without, with_entry, joint}
+use Rattle.array_meaning.specs.Values.{within_limit, argument_of, has_argument}
 use Rattle.array_meaning.specs.Reductions.{Arguments, absent, first_argument, second_argument, chosen}
 
 -- an INTEGER argument that is a scalar

@@ -1,6 +1,8 @@
 -- The functions that make one value of many elements, and those that ask for shapes and bounds. Each takes its arguments with
 -- their places among the dummies. Along a dimension, a reduction is that of each line of elements along it.
-use Rattle.std.specs.Prelude.{ℕ, ℤ, pos, negsuc, suc, ◌-◌, Bool, true, false, not, ◌&&◌, nat_eq, int_lt, if◌then◌else◌, Option, Some, None, List, [], ◌∷◌, ◌++◌, map, length, fold, filter, find, zip, drop, take, slice_index_or, Result, Ok, Err}
+use Rattle.std.specs.Prelude.{ℕ, ℤ, pos, negsuc, suc, ◌-◌, Bool, true, false, not, ◌&&◌, nat_eq, int_lt, if◌then◌else◌, Option}
+use Rattle.std.specs.Prelude.{Some, None, List, [], ◌∷◌, ◌++◌, map, length, fold, filter, find, zip, drop, take, slice_index_or}
+use Rattle.std.specs.Prelude.{Result, Ok, Err}
 use Rattle.std.specs.List.{list_all, list_any}
 use Rattle.a95_base.specs.declared.fault.FaultKind.{FaultKind}
 use Rattle.a95_base.specs.declared.fault.FaultKind.TheVariants as fault
@@ -12,7 +14,8 @@ use Rattle.f95_unit.specs.declared.operation.Reduction.{Reduction}
 use Rattle.f95_unit.specs.declared.operation.Reduction.TheVariants as reduction
 use Rattle.f95_unit.specs.declared.operation.Inquiry.{Inquiry}
 use Rattle.f95_unit.specs.declared.operation.Inquiry.TheVariants as inquiry
-use Rattle.array_meaning.specs.Values.{Value, nothing, integer_of, truth_of, length_of, scalar_value, vector_value, size_of, places, at_place, by_place, entry, without, with_entry, within_limit, argument_of}
+use Rattle.array_meaning.specs.Values.{Value, nothing, integer_of, truth_of, length_of, scalar_value, vector_value, size_of, places}
+use Rattle.array_meaning.specs.Values.{at_place, by_place, entry, without, with_entry, within_limit, argument_of}
 use Rattle.array_meaning.specs.State.{Dimension, extent_of, extents_of}
 
 abbrev pub Arguments : Type 0

@@ -1,5 +1,6 @@
 -- Operators, and elemental functions, on scalars. What a unit that isn't well typed asks for is `nothing`.
-use Rattle.std.specs.Prelude.{ℕ, ℤ, pos, Bool, true, false, not, ◌&&◌, ◌||◌, List, [], ◌∷◌, ◌++◌, map, fold, replicate, Option, ok_or, option_map, Result, Ok, ◌+◌}
+use Rattle.std.specs.Prelude.{ℕ, ℤ, pos, Bool, true, false, not, ◌&&◌, ◌||◌, List, [], ◌∷◌, ◌++◌, map, fold, replicate, Option}
+use Rattle.std.specs.Prelude.{ok_or, option_map, Result, Ok, ◌+◌}
 use Rattle.std.specs.declared.cmp.Ordering.{Ordering}
 use Rattle.std.specs.declared.cmp.Ordering.TheVariants.{Equal}
 use Rattle.std.specs.Ordering.{is_eq, is_ne, is_lt, is_le, is_gt, is_ge, int_cmp}
@@ -7,7 +8,8 @@ use Rattle.a95_base.specs.declared.fault.FaultKind.{FaultKind}
 use Rattle.a95_base.specs.declared.fault.FaultKind.TheVariants as fault
 use Rattle.a95_base.specs.declared.scalar.Scalar.{Scalar}
 use Rattle.a95_base.specs.declared.scalar.Scalar.TheVariants as scalar
-use Rattle.a95_base.specs.Integer.{sum_of, difference_of, product_of, negation_of, quotient_of, power_of, remainder_of, modulo_of, absolute_of, sign_of, greater_of, lesser_of, and_of, or_of, exclusive_or_of}
+use Rattle.a95_base.specs.Integer.{sum_of, difference_of, product_of, negation_of, quotient_of, power_of, remainder_of, modulo_of}
+use Rattle.a95_base.specs.Integer.{absolute_of, sign_of, greater_of, lesser_of, and_of, or_of, exclusive_or_of}
 use Rattle.a95_base.specs.Text.{compare_padded, trimmed_length, adjust_left, adjust_right, first_place, code_of, char_of}
 use Rattle.f95_unit.specs.declared.operation.UnaryOp.{UnaryOp}
 use Rattle.f95_unit.specs.declared.operation.UnaryOp.TheVariants as unary

@@ -1,5 +1,6 @@
 -- What of an array a designator names: the list of places, by their numbers, the first dimension fastest.
-use Rattle.std.specs.Prelude.{ℕ, ℤ, pos, ◌+ℤ◌, ◌-ℤ◌, ◌*ℤ◌, int_div, int_le, int_lt, unsigned_abs, nat_le, nat_eq, Bool, true, false, not, ◌&&◌, ◌||◌, if◌then◌else◌, Option, Some, None, List, [], ◌∷◌, map, length, slice_index_or}
+use Rattle.std.specs.Prelude.{ℕ, ℤ, pos, ◌+ℤ◌, ◌-ℤ◌, ◌*ℤ◌, int_div, int_le, int_lt, unsigned_abs, nat_le, nat_eq, Bool, true, false}
+use Rattle.std.specs.Prelude.{not, ◌&&◌, ◌||◌, if◌then◌else◌, Option, Some, None, List, [], ◌∷◌, map, length, slice_index_or}
 use Rattle.std.specs.List.{list_all, list_any}
 use Rattle.std.specs.Int.{int_max}
 use Rattle.std.specs.Ordering.{int_eq}
@@ -8,7 +9,8 @@ use Rattle.a95_base.specs.Steps.{pure, ◌>>=◌, ◌>>◌}
 use Rattle.a95_base.specs.Limits.{most_elements}
 use Rattle.a95_base.specs.Lists.{count_to}
 use Rattle.array_meaning.specs.Values.{Value, size_of, number_of, choices, length_of}
-use Rattle.array_meaning.specs.State.{Dimension, Array, Variable, Step, Substring, bytes_of, extents_of, unless, variable, allocated_array}
+use Rattle.array_meaning.specs.State.{Dimension, Array, Variable, Step, Substring, bytes_of, extents_of, unless, variable}
+use Rattle.array_meaning.specs.State.{allocated_array}
 
 -- MAX(INT((last - first + stride) / stride), 0), in exact integers
 abbrev pub triplet_count : ℤ → ℤ → ℤ → ℕ

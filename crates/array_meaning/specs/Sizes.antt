@@ -7,7 +7,8 @@ use Rattle.a95_base.specs.Limits.{most_elements}
 use Rattle.f95_unit.specs.declared.operation.Inquiry.{Inquiry}
 use Rattle.f95_unit.specs.declared.operation.Reduction.{Reduction}
 use Rattle.f95_unit.specs.declared.operation.Reduction.TheVariants as reduction
-use Rattle.f95_unit.specs.Plain.{Expr, typed, Literal, Constant, Index, Named, Brackets, Unary, Binary, Constructor, Elementwise, Trim, Asked, Reduced, Rearranged, Called, Arguments, no_argument, argument, call, Program}
+use Rattle.f95_unit.specs.Plain.{Expr, typed, Literal, Constant, Index, Named, Brackets, Unary, Binary, Constructor, Elementwise}
+use Rattle.f95_unit.specs.Plain.{Trim, Asked, Reduced, Rearranged, Called, Arguments, no_argument, argument, call, Program}
 use Rattle.array_meaning.specs.Values.{Value, size_of}
 use Rattle.array_meaning.specs.State.{Dimension, State}
 use Rattle.array_meaning.specs.Reductions.{inquired, reduction_of}

@@ -1,6 +1,8 @@
 -- The state of a running source, and the steps that everything is made of. The state has the variables of the innermost call
 -- alone: those of its callers stand in what a call means, out of reach for the callee.
-use Rattle.std.specs.Prelude.{ℕ, ℤ, pos, zero, suc, ◌+ℤ◌, ◌-ℤ◌, Bool, true, false, unsigned_abs, int_lt, if◌then◌else◌, Option, Some, None, List, [], ◌∷◌, ◌++◌, map, drop, fold, length, replicate, slice_index_or, slice_set, Result, Ok, Err}
+use Rattle.std.specs.Prelude.{ℕ, ℤ, pos, zero, suc, ◌+ℤ◌, ◌-ℤ◌, Bool, true, false, unsigned_abs, int_lt, if◌then◌else◌, Option}
+use Rattle.std.specs.Prelude.{Some, None, List, [], ◌∷◌, ◌++◌, map, drop, fold, length, replicate, slice_index_or, slice_set}
+use Rattle.std.specs.Prelude.{Result, Ok, Err}
 use Rattle.a95_base.specs.declared.fault.FaultKind.{FaultKind}
 use Rattle.a95_base.specs.declared.fault.FaultKind.TheVariants as fault
 use Rattle.a95_base.specs.declared.scalar.Scalar.{Scalar}

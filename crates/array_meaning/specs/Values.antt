@@ -2,7 +2,8 @@
 -- a value without extents. A place of an array is the list of its subscripts, counted from 0. An array value has at most 2^24
 -- elements: what makes one tests it. Where a unit isn't well typed a definition gives anything; no sentence on a source rests on
 -- that.
-use Rattle.std.specs.Prelude.{ℕ, ℤ, pos, ◌+◌, ◌*◌, ◌-◌, Bool, true, false, nat_eq, nat_le, if◌then◌else◌, List, [], ◌∷◌, map, length, replicate, slice_index_or, insert, remove, flat_map, Result, Ok, Err}
+use Rattle.std.specs.Prelude.{ℕ, ℤ, pos, ◌+◌, ◌*◌, ◌-◌, Bool, true, false, nat_eq, nat_le, if◌then◌else◌, List, [], ◌∷◌, map}
+use Rattle.std.specs.Prelude.{length, replicate, slice_index_or, insert, remove, flat_map, Result, Ok, Err}
 use Rattle.std.specs.Cmp.Lexicographic.{pointwise}
 use Rattle.a95_base.specs.declared.fault.FaultKind.{FaultKind}
 use Rattle.a95_base.specs.declared.fault.FaultKind.TheVariants as fault

@@ -1,7 +1,9 @@
 -- Sections without elements, with negative strides, and by subscripts that stand twice on the right. Each row holds by computation.
 use Rattle.std.proofs.Common.{refl}
 use Rattle.array_meaning.proofs.Running.{running}
-use Rattle.array_meaning_rows.specs.AssignmentsFour.{empty_sections, backwards_onto_itself, stride_past_the_end, repeats_on_the_right, vector_of_no_subscripts, EmptySections, BackwardsOntoItself, StridePastTheEnd, RepeatsOnTheRight, VectorOfNoSubscripts}
+use Rattle.array_meaning_rows.specs.AssignmentsFour.{empty_sections, backwards_onto_itself, stride_past_the_end}
+use Rattle.array_meaning_rows.specs.AssignmentsFour.{repeats_on_the_right, vector_of_no_subscripts, EmptySections}
+use Rattle.array_meaning_rows.specs.AssignmentsFour.{BackwardsOntoItself, StridePastTheEnd, RepeatsOnTheRight, VectorOfNoSubscripts}
 
 pub empty_sections_row : EmptySections
 unfolding running empty_sections

@@ -1,7 +1,11 @@
 -- Assignments of whole arrays, sections, texts and scalars, and initial values. Each row holds by computation.
 use Rattle.std.proofs.Common.{refl}
 use Rattle.array_meaning.proofs.Running.{running}
-use Rattle.array_meaning_rows.specs.AssignmentsOne.{whole_arrays, both_neighbours, reversed_onto_itself, block_moved, first_element_read_once, no_places_no_bounds, vector_subscript, bounds_and_negative_stride, texts_fit, WholeArrays, BothNeighbours, ReversedOntoItself, BlockMoved, FirstElementReadOnce, NoPlacesNoBounds, VectorSubscript, BoundsAndNegativeStride, TextsFit}
+use Rattle.array_meaning_rows.specs.AssignmentsOne.{whole_arrays, both_neighbours, reversed_onto_itself, block_moved}
+use Rattle.array_meaning_rows.specs.AssignmentsOne.{first_element_read_once, no_places_no_bounds, vector_subscript}
+use Rattle.array_meaning_rows.specs.AssignmentsOne.{bounds_and_negative_stride, texts_fit, WholeArrays, BothNeighbours}
+use Rattle.array_meaning_rows.specs.AssignmentsOne.{ReversedOntoItself, BlockMoved, FirstElementReadOnce, NoPlacesNoBounds}
+use Rattle.array_meaning_rows.specs.AssignmentsOne.{VectorSubscript, BoundsAndNegativeStride, TextsFit}
 
 pub whole_arrays_row : WholeArrays
 unfolding running whole_arrays

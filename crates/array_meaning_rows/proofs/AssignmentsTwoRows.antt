@@ -1,7 +1,11 @@
 -- Assignments of whole arrays, sections, texts and scalars, and initial values. Each row holds by computation.
 use Rattle.std.proofs.Common.{refl}
 use Rattle.array_meaning.proofs.Running.{running}
-use Rattle.array_meaning_rows.specs.AssignmentsTwo.{substring_stored, integers_wrap, initial_values, seven_dimensions, seven_dimensions_empty, bounds_left_out_are_declared, two_dimensions, text_arrays_compared, trial_of_none, SubstringStored, IntegersWrap, InitialValues, SevenDimensions, SevenDimensionsEmpty, BoundsLeftOutAreDeclared, TwoDimensions, TextArraysCompared, TrialOfNone}
+use Rattle.array_meaning_rows.specs.AssignmentsTwo.{substring_stored, integers_wrap, initial_values, seven_dimensions}
+use Rattle.array_meaning_rows.specs.AssignmentsTwo.{seven_dimensions_empty, bounds_left_out_are_declared, two_dimensions}
+use Rattle.array_meaning_rows.specs.AssignmentsTwo.{text_arrays_compared, trial_of_none, SubstringStored, IntegersWrap}
+use Rattle.array_meaning_rows.specs.AssignmentsTwo.{InitialValues, SevenDimensions, SevenDimensionsEmpty, BoundsLeftOutAreDeclared}
+use Rattle.array_meaning_rows.specs.AssignmentsTwo.{TwoDimensions, TextArraysCompared, TrialOfNone}
 
 pub substring_stored_row : SubstringStored
 unfolding running substring_stored

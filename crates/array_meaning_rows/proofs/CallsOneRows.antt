@@ -1,7 +1,11 @@
 -- Subroutines and functions. Each row holds by computation.
 use Rattle.std.proofs.Common.{refl}
 use Rattle.array_meaning.proofs.Running.{running}
-use Rattle.array_meaning_rows.specs.CallsOne.{two_sections_apart, two_sections_overlap, elemental_reference, elemental_reference_faults, explicit_shape_dummy, explicit_shape_differs, factorial, array_function_and_texts, lower_bounds_and_out, TwoSectionsApart, TwoSectionsOverlap, ElementalReference, ElementalReferenceFaults, ExplicitShapeDummy, ExplicitShapeDiffers, Factorial, ArrayFunctionAndTexts, LowerBoundsAndOut}
+use Rattle.array_meaning_rows.specs.CallsOne.{two_sections_apart, two_sections_overlap, elemental_reference}
+use Rattle.array_meaning_rows.specs.CallsOne.{elemental_reference_faults, explicit_shape_dummy, explicit_shape_differs, factorial}
+use Rattle.array_meaning_rows.specs.CallsOne.{array_function_and_texts, lower_bounds_and_out, TwoSectionsApart, TwoSectionsOverlap}
+use Rattle.array_meaning_rows.specs.CallsOne.{ElementalReference, ElementalReferenceFaults, ExplicitShapeDummy}
+use Rattle.array_meaning_rows.specs.CallsOne.{ExplicitShapeDiffers, Factorial, ArrayFunctionAndTexts, LowerBoundsAndOut}
 
 pub two_sections_apart_row : TwoSectionsApart
 unfolding running two_sections_apart

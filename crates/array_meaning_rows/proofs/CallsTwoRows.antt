@@ -1,7 +1,11 @@
 -- Subroutines and functions. Each row holds by computation.
 use Rattle.std.proofs.Common.{refl}
 use Rattle.array_meaning.proofs.Running.{running}
-use Rattle.array_meaning_rows.specs.CallsTwo.{brackets_pass_a_value, blinker, one_scalar_twice, vector_subscript_is_a_value, out_starts_with_the_actual, length_differs, locals_begin_anew, each_element_is_a_call, keywords_and_text_result, BracketsPassAValue, Blinker, OneScalarTwice, VectorSubscriptIsAValue, OutStartsWithTheActual, LengthDiffers, LocalsBeginAnew, EachElementIsACall, KeywordsAndTextResult}
+use Rattle.array_meaning_rows.specs.CallsTwo.{brackets_pass_a_value, blinker, one_scalar_twice, vector_subscript_is_a_value}
+use Rattle.array_meaning_rows.specs.CallsTwo.{out_starts_with_the_actual, length_differs, locals_begin_anew, each_element_is_a_call}
+use Rattle.array_meaning_rows.specs.CallsTwo.{keywords_and_text_result, BracketsPassAValue, Blinker, OneScalarTwice}
+use Rattle.array_meaning_rows.specs.CallsTwo.{VectorSubscriptIsAValue, OutStartsWithTheActual, LengthDiffers, LocalsBeginAnew}
+use Rattle.array_meaning_rows.specs.CallsTwo.{EachElementIsACall, KeywordsAndTextResult}
 
 pub brackets_pass_a_value_row : BracketsPassAValue
 unfolding running brackets_pass_a_value

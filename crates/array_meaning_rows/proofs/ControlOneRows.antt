@@ -1,7 +1,10 @@
 -- Choices, loops, turns, allocation, and operators of LOGICAL and CHARACTER. Each row holds by computation.
 use Rattle.std.proofs.Common.{refl}
 use Rattle.array_meaning.proofs.Running.{running}
-use Rattle.array_meaning_rows.specs.ControlOne.{if_chain, do_counts, exit_and_cycle, while_and_endless, select_cases, stop_ends, turns_suffice, while_may_end_without_turn, endless_loop_goes_on, IfChain, DoCounts, ExitAndCycle, WhileAndEndless, SelectCases, StopEnds, TurnsSuffice, WhileMayEndWithoutTurn, EndlessLoopGoesOn}
+use Rattle.array_meaning_rows.specs.ControlOne.{if_chain, do_counts, exit_and_cycle, while_and_endless, select_cases, stop_ends}
+use Rattle.array_meaning_rows.specs.ControlOne.{turns_suffice, while_may_end_without_turn, endless_loop_goes_on, IfChain, DoCounts}
+use Rattle.array_meaning_rows.specs.ControlOne.{ExitAndCycle, WhileAndEndless, SelectCases, StopEnds, TurnsSuffice}
+use Rattle.array_meaning_rows.specs.ControlOne.{WhileMayEndWithoutTurn, EndlessLoopGoesOn}
 
 pub if_chain_row : IfChain
 unfolding running if_chain

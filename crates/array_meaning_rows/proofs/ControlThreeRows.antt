@@ -2,7 +2,13 @@
 -- computation.
 use Rattle.std.proofs.Common.{refl}
 use Rattle.array_meaning.proofs.Running.{running}
-use Rattle.array_meaning_rows.specs.ControlThree.{negative_do, select_by_ranges, select_by_texts, select_without_a_case, exit_of_the_outer_loop, step_of_zero, stride_of_zero_in_nothing, element_of_a_shrunk_section, shapes_differ_before_stores, elemental_over_a_section, lower_bounds_of_dummies, NegativeDo, SelectByRanges, SelectByTexts, SelectWithoutACase, ExitOfTheOuterLoop, StepOfZero, StrideOfZeroInNothing, ElementOfAShrunkSection, ShapesDifferBeforeStores, ElementalOverASection, LowerBoundsOfDummies}
+use Rattle.array_meaning_rows.specs.ControlThree.{negative_do, select_by_ranges, select_by_texts, select_without_a_case}
+use Rattle.array_meaning_rows.specs.ControlThree.{exit_of_the_outer_loop, step_of_zero, stride_of_zero_in_nothing}
+use Rattle.array_meaning_rows.specs.ControlThree.{element_of_a_shrunk_section, shapes_differ_before_stores}
+use Rattle.array_meaning_rows.specs.ControlThree.{elemental_over_a_section, lower_bounds_of_dummies, NegativeDo, SelectByRanges}
+use Rattle.array_meaning_rows.specs.ControlThree.{SelectByTexts, SelectWithoutACase, ExitOfTheOuterLoop, StepOfZero}
+use Rattle.array_meaning_rows.specs.ControlThree.{StrideOfZeroInNothing, ElementOfAShrunkSection, ShapesDifferBeforeStores}
+use Rattle.array_meaning_rows.specs.ControlThree.{ElementalOverASection, LowerBoundsOfDummies}
 
 pub negative_do_row : NegativeDo
 unfolding running negative_do

@@ -1,7 +1,12 @@
 -- Choices, loops, turns, allocation, and operators of LOGICAL and CHARACTER. Each row holds by computation.
 use Rattle.std.proofs.Common.{refl}
 use Rattle.array_meaning.proofs.Running.{running}
-use Rattle.array_meaning_rows.specs.ControlTwo.{allocate_and_free, logical_operators, texts_compared, variable_wraps_behind_last_turn, both_operands_evaluated, allocated_too_large_first, initial_value_of_allocatable, turns_of_a_constructor, case_of_negative_numbers, AllocateAndFree, LogicalOperators, TextsCompared, VariableWrapsBehindLastTurn, BothOperandsEvaluated, AllocatedTooLargeFirst, InitialValueOfAllocatable, TurnsOfAConstructor, CaseOfNegativeNumbers}
+use Rattle.array_meaning_rows.specs.ControlTwo.{allocate_and_free, logical_operators, texts_compared}
+use Rattle.array_meaning_rows.specs.ControlTwo.{variable_wraps_behind_last_turn, both_operands_evaluated, allocated_too_large_first}
+use Rattle.array_meaning_rows.specs.ControlTwo.{initial_value_of_allocatable, turns_of_a_constructor, case_of_negative_numbers}
+use Rattle.array_meaning_rows.specs.ControlTwo.{AllocateAndFree, LogicalOperators, TextsCompared, VariableWrapsBehindLastTurn}
+use Rattle.array_meaning_rows.specs.ControlTwo.{BothOperandsEvaluated, AllocatedTooLargeFirst, InitialValueOfAllocatable}
+use Rattle.array_meaning_rows.specs.ControlTwo.{TurnsOfAConstructor, CaseOfNegativeNumbers}
 
 pub allocate_and_free_row : AllocateAndFree
 unfolding running allocate_and_free

@@ -1,7 +1,9 @@
 -- The depth of calls. Each row holds by computation.
 use Rattle.std.proofs.Common.{refl}
 use Rattle.array_meaning.proofs.Running.{running}
-use Rattle.array_meaning_rows.specs.Depth.{calls_too_deep, calls_too_deep_before_a_turn, turns_run_out_before_depth, overlap_before_depth, CallsTooDeep, CallsTooDeepBeforeATurn, TurnsRunOutBeforeDepth, OverlapBeforeDepth}
+use Rattle.array_meaning_rows.specs.Depth.{calls_too_deep, calls_too_deep_before_a_turn, turns_run_out_before_depth}
+use Rattle.array_meaning_rows.specs.Depth.{overlap_before_depth, CallsTooDeep, CallsTooDeepBeforeATurn, TurnsRunOutBeforeDepth}
+use Rattle.array_meaning_rows.specs.Depth.{OverlapBeforeDepth}
 
 pub calls_too_deep_row : CallsTooDeep
 unfolding running calls_too_deep

@@ -1,7 +1,11 @@
 -- Faults, and what comes before what. Each row holds by computation.
 use Rattle.std.proofs.Common.{refl}
 use Rattle.array_meaning.proofs.Running.{running}
-use Rattle.array_meaning_rows.specs.FaultsOne.{zero_divisor, zero_remainder, zero_to_negative_power, subscript_out_of_bounds, substring_out_of_bounds, shapes_differ, stride_of_zero, do_step_of_zero, place_stored_twice, ZeroDivisor, ZeroRemainder, ZeroToNegativePower, SubscriptOutOfBounds, SubstringOutOfBounds, ShapesDiffer, StrideOfZero, DoStepOfZero, PlaceStoredTwice}
+use Rattle.array_meaning_rows.specs.FaultsOne.{zero_divisor, zero_remainder, zero_to_negative_power, subscript_out_of_bounds}
+use Rattle.array_meaning_rows.specs.FaultsOne.{substring_out_of_bounds, shapes_differ, stride_of_zero, do_step_of_zero}
+use Rattle.array_meaning_rows.specs.FaultsOne.{place_stored_twice, ZeroDivisor, ZeroRemainder, ZeroToNegativePower}
+use Rattle.array_meaning_rows.specs.FaultsOne.{SubscriptOutOfBounds, SubstringOutOfBounds, ShapesDiffer, StrideOfZero, DoStepOfZero}
+use Rattle.array_meaning_rows.specs.FaultsOne.{PlaceStoredTwice}
 
 pub zero_divisor_row : ZeroDivisor
 unfolding running zero_divisor

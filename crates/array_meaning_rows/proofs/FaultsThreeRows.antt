@@ -1,7 +1,12 @@
 -- Faults, and what comes before what. Each row holds by computation.
 use Rattle.std.proofs.Common.{refl}
 use Rattle.array_meaning.proofs.Running.{running}
-use Rattle.array_meaning_rows.specs.FaultsThree.{matrices_differ, right_side_first, scalar_function_is_a_part, masked_division_is_none, arguments_one_after_the_other, nothing_printed_before_fault, subscripts_before_stride, substring_before_stride, stride_before_bounds, MatricesDiffer, RightSideFirst, ScalarFunctionIsAPart, MaskedDivisionIsNone, ArgumentsOneAfterTheOther, NothingPrintedBeforeFault, SubscriptsBeforeStride, SubstringBeforeStride, StrideBeforeBounds}
+use Rattle.array_meaning_rows.specs.FaultsThree.{matrices_differ, right_side_first, scalar_function_is_a_part}
+use Rattle.array_meaning_rows.specs.FaultsThree.{masked_division_is_none, arguments_one_after_the_other}
+use Rattle.array_meaning_rows.specs.FaultsThree.{nothing_printed_before_fault, subscripts_before_stride, substring_before_stride}
+use Rattle.array_meaning_rows.specs.FaultsThree.{stride_before_bounds, MatricesDiffer, RightSideFirst, ScalarFunctionIsAPart}
+use Rattle.array_meaning_rows.specs.FaultsThree.{MaskedDivisionIsNone, ArgumentsOneAfterTheOther, NothingPrintedBeforeFault}
+use Rattle.array_meaning_rows.specs.FaultsThree.{SubscriptsBeforeStride, SubstringBeforeStride, StrideBeforeBounds}
 
 pub matrices_differ_row : MatricesDiffer
 unfolding running matrices_differ

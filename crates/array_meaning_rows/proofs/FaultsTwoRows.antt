@@ -1,7 +1,10 @@
 -- Faults, and what comes before what. Each row holds by computation.
 use Rattle.std.proofs.Common.{refl}
 use Rattle.array_meaning.proofs.Running.{running}
-use Rattle.array_meaning_rows.specs.FaultsTwo.{forall_stores_twice, too_large, not_allocated, deallocated_twice, allocated_already, no_character, vector_too_short, no_order, too_few_elements, ForallStoresTwice, TooLarge, NotAllocated, DeallocatedTwice, AllocatedAlready, NoCharacter, VectorTooShort, NoOrder, TooFewElements}
+use Rattle.array_meaning_rows.specs.FaultsTwo.{forall_stores_twice, too_large, not_allocated, deallocated_twice, allocated_already}
+use Rattle.array_meaning_rows.specs.FaultsTwo.{no_character, vector_too_short, no_order, too_few_elements, ForallStoresTwice}
+use Rattle.array_meaning_rows.specs.FaultsTwo.{TooLarge, NotAllocated, DeallocatedTwice, AllocatedAlready, NoCharacter}
+use Rattle.array_meaning_rows.specs.FaultsTwo.{VectorTooShort, NoOrder, TooFewElements}
 
 pub forall_stores_twice_row : ForallStoresTwice
 unfolding running forall_stores_twice

@@ -1,7 +1,10 @@
 -- READ and PRINT. Each row holds by computation.
 use Rattle.std.proofs.Common.{refl}
 use Rattle.array_meaning.proofs.Running.{running}
-use Rattle.array_meaning_rows.specs.InputOne.{read_and_print, item_by_item, nothing_left, no_integer, comma_first, record_of_nothing, empty_record, read_into_vector_twice, number_too_great, ReadAndPrint, ItemByItem, NothingLeft, NoInteger, CommaFirst, RecordOfNothing, EmptyRecord, ReadIntoVectorTwice, NumberTooGreat}
+use Rattle.array_meaning_rows.specs.InputOne.{read_and_print, item_by_item, nothing_left, no_integer, comma_first}
+use Rattle.array_meaning_rows.specs.InputOne.{record_of_nothing, empty_record, read_into_vector_twice, number_too_great}
+use Rattle.array_meaning_rows.specs.InputOne.{ReadAndPrint, ItemByItem, NothingLeft, NoInteger, CommaFirst, RecordOfNothing}
+use Rattle.array_meaning_rows.specs.InputOne.{EmptyRecord, ReadIntoVectorTwice, NumberTooGreat}
 
 pub read_and_print_row : ReadAndPrint
 unfolding running read_and_print

@@ -2,7 +2,12 @@
 -- computation.
 use Rattle.std.proofs.Common.{refl}
 use Rattle.array_meaning.proofs.Running.{running}
-use Rattle.array_meaning_rows.specs.IntrinsicsFive.{places_with_ties, places_where_nothing_counts, place_counts_from_one, sums_along_nothing, masks_along_a_dimension, products_of_nothing, nested_implied_dos, padded_comparison, texts_cut_and_padded, PlacesWithTies, PlacesWhereNothingCounts, PlaceCountsFromOne, SumsAlongNothing, MasksAlongADimension, ProductsOfNothing, NestedImpliedDos, PaddedComparison, TextsCutAndPadded}
+use Rattle.array_meaning_rows.specs.IntrinsicsFive.{places_with_ties, places_where_nothing_counts, place_counts_from_one}
+use Rattle.array_meaning_rows.specs.IntrinsicsFive.{sums_along_nothing, masks_along_a_dimension, products_of_nothing}
+use Rattle.array_meaning_rows.specs.IntrinsicsFive.{nested_implied_dos, padded_comparison, texts_cut_and_padded, PlacesWithTies}
+use Rattle.array_meaning_rows.specs.IntrinsicsFive.{PlacesWhereNothingCounts, PlaceCountsFromOne, SumsAlongNothing}
+use Rattle.array_meaning_rows.specs.IntrinsicsFive.{MasksAlongADimension, ProductsOfNothing, NestedImpliedDos, PaddedComparison}
+use Rattle.array_meaning_rows.specs.IntrinsicsFive.{TextsCutAndPadded}
 
 pub places_with_ties_row : PlacesWithTies
 unfolding running places_with_ties

@@ -1,7 +1,11 @@
 -- Bounds of arrays without elements, choices, shifts, copies, and new shapes. Each row holds by computation.
 use Rattle.std.proofs.Common.{refl}
 use Rattle.array_meaning.proofs.Running.{running}
-use Rattle.array_meaning_rows.specs.IntrinsicsFour.{bounds_of_no_elements, merge_of_shapes, shifts_of_a_matrix, logical_shifts, copies_of_copies, copies_of_none, order_with_pad, pad_of_a_matrix, pack_and_unpack, BoundsOfNoElements, MergeOfShapes, ShiftsOfAMatrix, LogicalShifts, CopiesOfCopies, CopiesOfNone, OrderWithPad, PadOfAMatrix, PackAndUnpack}
+use Rattle.array_meaning_rows.specs.IntrinsicsFour.{bounds_of_no_elements, merge_of_shapes, shifts_of_a_matrix, logical_shifts}
+use Rattle.array_meaning_rows.specs.IntrinsicsFour.{copies_of_copies, copies_of_none, order_with_pad, pad_of_a_matrix}
+use Rattle.array_meaning_rows.specs.IntrinsicsFour.{pack_and_unpack, BoundsOfNoElements, MergeOfShapes, ShiftsOfAMatrix}
+use Rattle.array_meaning_rows.specs.IntrinsicsFour.{LogicalShifts, CopiesOfCopies, CopiesOfNone, OrderWithPad, PadOfAMatrix}
+use Rattle.array_meaning_rows.specs.IntrinsicsFour.{PackAndUnpack}
 
 pub bounds_of_no_elements_row : BoundsOfNoElements
 unfolding running bounds_of_no_elements

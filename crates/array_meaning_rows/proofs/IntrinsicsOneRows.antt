@@ -1,7 +1,10 @@
 -- Intrinsic functions and constructors. Each row holds by computation.
 use Rattle.std.proofs.Common.{refl}
 use Rattle.array_meaning.proofs.Running.{running}
-use Rattle.array_meaning_rows.specs.IntrinsicsOne.{integer_functions, bits, merged, text_functions, inquiries, reductions, places_of_extremes, products, spread_pack_unpack, IntegerFunctions, Bits, Merged, TextFunctions, Inquiries, Reductions, PlacesOfExtremes, Products, SpreadPackUnpack}
+use Rattle.array_meaning_rows.specs.IntrinsicsOne.{integer_functions, bits, merged, text_functions, inquiries, reductions}
+use Rattle.array_meaning_rows.specs.IntrinsicsOne.{places_of_extremes, products, spread_pack_unpack, IntegerFunctions, Bits, Merged}
+use Rattle.array_meaning_rows.specs.IntrinsicsOne.{TextFunctions, Inquiries, Reductions, PlacesOfExtremes, Products}
+use Rattle.array_meaning_rows.specs.IntrinsicsOne.{SpreadPackUnpack}
 
 pub integer_functions_row : IntegerFunctions
 unfolding running integer_functions

@@ -1,7 +1,8 @@
 -- Intrinsic functions and constructors. Each row holds by computation.
 use Rattle.std.proofs.Common.{refl}
 use Rattle.array_meaning.proofs.Running.{running}
-use Rattle.array_meaning_rows.specs.IntrinsicsThree.{shape_is_negative, logical_arrays, empty_matrices, ShapeIsNegative, LogicalArrays, EmptyMatrices}
+use Rattle.array_meaning_rows.specs.IntrinsicsThree.{shape_is_negative, logical_arrays, empty_matrices, ShapeIsNegative}
+use Rattle.array_meaning_rows.specs.IntrinsicsThree.{LogicalArrays, EmptyMatrices}
 
 pub shape_is_negative_row : ShapeIsNegative
 unfolding running shape_is_negative

@@ -1,7 +1,11 @@
 -- Intrinsic functions and constructors. Each row holds by computation.
 use Rattle.std.proofs.Common.{refl}
 use Rattle.array_meaning.proofs.Running.{running}
-use Rattle.array_meaning_rows.specs.IntrinsicsTwo.{reshaped, constructors, powers, scalar_elemental_is_a_part, place_by_place, matrices_one_after_the_other, shape_asks_for_conformance, merge_evaluates_all, unpack_needs_elements, Reshaped, Constructors, Powers, ScalarElementalIsAPart, PlaceByPlace, MatricesOneAfterTheOther, ShapeAsksForConformance, MergeEvaluatesAll, UnpackNeedsElements}
+use Rattle.array_meaning_rows.specs.IntrinsicsTwo.{reshaped, constructors, powers, scalar_elemental_is_a_part, place_by_place}
+use Rattle.array_meaning_rows.specs.IntrinsicsTwo.{matrices_one_after_the_other, shape_asks_for_conformance, merge_evaluates_all}
+use Rattle.array_meaning_rows.specs.IntrinsicsTwo.{unpack_needs_elements, Reshaped, Constructors, Powers, ScalarElementalIsAPart}
+use Rattle.array_meaning_rows.specs.IntrinsicsTwo.{PlaceByPlace, MatricesOneAfterTheOther, ShapeAsksForConformance}
+use Rattle.array_meaning_rows.specs.IntrinsicsTwo.{MergeEvaluatesAll, UnpackNeedsElements}
 
 pub reshaped_row : Reshaped
 unfolding running reshaped

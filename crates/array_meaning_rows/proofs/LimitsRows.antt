@@ -1,7 +1,10 @@
 -- Bounds, counts and strides at the limits. Each row holds by computation.
 use Rattle.std.proofs.Common.{refl}
 use Rattle.array_meaning.proofs.Running.{running}
-use Rattle.array_meaning_rows.specs.Limits.{upper_bound_wraps, size_wraps, great_stride, great_step, greatest_bounds, no_row_of_a_thousand, substring_of_no_element, implied_do_step_of_zero, UpperBoundWraps, SizeWraps, GreatStride, GreatStep, GreatestBounds, NoRowOfAThousand, SubstringOfNoElement, ImpliedDoStepOfZero}
+use Rattle.array_meaning_rows.specs.Limits.{upper_bound_wraps, size_wraps, great_stride, great_step, greatest_bounds}
+use Rattle.array_meaning_rows.specs.Limits.{no_row_of_a_thousand, substring_of_no_element, implied_do_step_of_zero, UpperBoundWraps}
+use Rattle.array_meaning_rows.specs.Limits.{SizeWraps, GreatStride, GreatStep, GreatestBounds, NoRowOfAThousand}
+use Rattle.array_meaning_rows.specs.Limits.{SubstringOfNoElement, ImpliedDoStepOfZero}
 
 pub upper_bound_wraps_row : UpperBoundWraps
 unfolding running upper_bound_wraps

@@ -1,7 +1,11 @@
 -- WHERE and FORALL. Each row holds by computation.
 use Rattle.std.proofs.Common.{refl}
 use Rattle.array_meaning.proofs.Running.{running}
-use Rattle.array_meaning_rows.specs.MasksOne.{where_and_elsewhere, masked_elsewhere_and_nested, mask_evaluated_once, division_at_true_places, forall_with_mask, forall_two_assignments, forall_backwards, masks_of_another_shape, many_one_at_false_places, WhereAndElsewhere, MaskedElsewhereAndNested, MaskEvaluatedOnce, DivisionAtTruePlaces, ForallWithMask, ForallTwoAssignments, ForallBackwards, MasksOfAnotherShape, ManyOneAtFalsePlaces}
+use Rattle.array_meaning_rows.specs.MasksOne.{where_and_elsewhere, masked_elsewhere_and_nested, mask_evaluated_once}
+use Rattle.array_meaning_rows.specs.MasksOne.{division_at_true_places, forall_with_mask, forall_two_assignments, forall_backwards}
+use Rattle.array_meaning_rows.specs.MasksOne.{masks_of_another_shape, many_one_at_false_places, WhereAndElsewhere}
+use Rattle.array_meaning_rows.specs.MasksOne.{MaskedElsewhereAndNested, MaskEvaluatedOnce, DivisionAtTruePlaces, ForallWithMask}
+use Rattle.array_meaning_rows.specs.MasksOne.{ForallTwoAssignments, ForallBackwards, MasksOfAnotherShape, ManyOneAtFalsePlaces}
 
 pub where_and_elsewhere_row : WhereAndElsewhere
 unfolding running where_and_elsewhere

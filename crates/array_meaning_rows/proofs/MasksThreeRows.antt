@@ -1,7 +1,12 @@
 -- WHERE whose body changes its mask, and FORALL without combinations or with negative strides. Each row holds by computation.
 use Rattle.std.proofs.Common.{refl}
 use Rattle.array_meaning.proofs.Running.{running}
-use Rattle.array_meaning_rows.specs.MasksThree.{mask_changed_in_its_body, masked_elsewheres_in_order, where_within_elsewhere, where_without_any_place, where_of_no_elements, forall_without_combinations, forall_backwards_by_two, forall_transposes, MaskChangedInItsBody, MaskedElsewheresInOrder, WhereWithinElsewhere, WhereWithoutAnyPlace, WhereOfNoElements, ForallWithoutCombinations, ForallBackwardsByTwo, ForallTransposes}
+use Rattle.array_meaning_rows.specs.MasksThree.{mask_changed_in_its_body, masked_elsewheres_in_order, where_within_elsewhere}
+use Rattle.array_meaning_rows.specs.MasksThree.{where_without_any_place, where_of_no_elements, forall_without_combinations}
+use Rattle.array_meaning_rows.specs.MasksThree.{forall_backwards_by_two, forall_transposes, MaskChangedInItsBody}
+use Rattle.array_meaning_rows.specs.MasksThree.{MaskedElsewheresInOrder, WhereWithinElsewhere, WhereWithoutAnyPlace}
+use Rattle.array_meaning_rows.specs.MasksThree.{WhereOfNoElements, ForallWithoutCombinations, ForallBackwardsByTwo}
+use Rattle.array_meaning_rows.specs.MasksThree.{ForallTransposes}
 
 pub mask_changed_in_its_body_row : MaskChangedInItsBody
 unfolding running mask_changed_in_its_body

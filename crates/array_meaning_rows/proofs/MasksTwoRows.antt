@@ -1,7 +1,9 @@
 -- WHERE and FORALL. Each row holds by computation.
 use Rattle.std.proofs.Common.{refl}
 use Rattle.array_meaning.proofs.Running.{running}
-use Rattle.array_meaning_rows.specs.MasksTwo.{nested_where_with_elsewhere, index_keeps_to_forall, forall_section, forall_strides_in_order, NestedWhereWithElsewhere, IndexKeepsToForall, ForallSection, ForallStridesInOrder}
+use Rattle.array_meaning_rows.specs.MasksTwo.{nested_where_with_elsewhere, index_keeps_to_forall, forall_section}
+use Rattle.array_meaning_rows.specs.MasksTwo.{forall_strides_in_order, NestedWhereWithElsewhere, IndexKeepsToForall, ForallSection}
+use Rattle.array_meaning_rows.specs.MasksTwo.{ForallStridesInOrder}
 
 pub nested_where_with_elsewhere_row : NestedWhereWithElsewhere
 unfolding running nested_where_with_elsewhere

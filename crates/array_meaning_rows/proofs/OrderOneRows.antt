@@ -1,7 +1,13 @@
 -- What is evaluated and tested before what. Each row holds by computation.
 use Rattle.std.proofs.Common.{refl}
 use Rattle.array_meaning.proofs.Running.{running}
-use Rattle.array_meaning_rows.specs.OrderOne.{left_parts_behind_right, dot_product_place_by_place, pack_one_after_the_other, arguments_in_text_order, forall_combination_by_combination, forall_elements_before_many_one, call_tested_before_its_turn, extent_of_a_declaration_faults, length_before_bounds, LeftPartsBehindRight, DotProductPlaceByPlace, PackOneAfterTheOther, ArgumentsInTextOrder, ForallCombinationByCombination, ForallElementsBeforeManyOne, CallTestedBeforeItsTurn, ExtentOfADeclarationFaults, LengthBeforeBounds}
+use Rattle.array_meaning_rows.specs.OrderOne.{left_parts_behind_right, dot_product_place_by_place, pack_one_after_the_other}
+use Rattle.array_meaning_rows.specs.OrderOne.{arguments_in_text_order, forall_combination_by_combination}
+use Rattle.array_meaning_rows.specs.OrderOne.{forall_elements_before_many_one, call_tested_before_its_turn}
+use Rattle.array_meaning_rows.specs.OrderOne.{extent_of_a_declaration_faults, length_before_bounds, LeftPartsBehindRight}
+use Rattle.array_meaning_rows.specs.OrderOne.{DotProductPlaceByPlace, PackOneAfterTheOther, ArgumentsInTextOrder}
+use Rattle.array_meaning_rows.specs.OrderOne.{ForallCombinationByCombination, ForallElementsBeforeManyOne, CallTestedBeforeItsTurn}
+use Rattle.array_meaning_rows.specs.OrderOne.{ExtentOfADeclarationFaults, LengthBeforeBounds}
 
 pub left_parts_behind_right_row : LeftPartsBehindRight
 unfolding running left_parts_behind_right

@@ -1,7 +1,10 @@
 -- Small whole sources. Each row holds by computation.
 use Rattle.std.proofs.Common.{refl}
 use Rattle.array_meaning.proofs.Running.{running}
-use Rattle.array_meaning_rows.specs.SourcesOne.{texts_and_truth, steps_of_four, section_past_the_end, section_too_long, section_without_stride, where_in_where, forall_reverses, forall_inverts, matrix_and_vector, TextsAndTruth, StepsOfFour, SectionPastTheEnd, SectionTooLong, SectionWithoutStride, WhereInWhere, ForallReverses, ForallInverts, MatrixAndVector}
+use Rattle.array_meaning_rows.specs.SourcesOne.{texts_and_truth, steps_of_four, section_past_the_end, section_too_long}
+use Rattle.array_meaning_rows.specs.SourcesOne.{section_without_stride, where_in_where, forall_reverses, forall_inverts}
+use Rattle.array_meaning_rows.specs.SourcesOne.{matrix_and_vector, TextsAndTruth, StepsOfFour, SectionPastTheEnd, SectionTooLong}
+use Rattle.array_meaning_rows.specs.SourcesOne.{SectionWithoutStride, WhereInWhere, ForallReverses, ForallInverts, MatrixAndVector}
 
 pub texts_and_truth_row : TextsAndTruth
 unfolding running texts_and_truth

@@ -1,7 +1,11 @@
 -- Small whole sources. Each row holds by computation.
 use Rattle.std.proofs.Common.{refl}
 use Rattle.array_meaning.proofs.Running.{running}
-use Rattle.array_meaning_rows.specs.SourcesTwo.{packed_and_padded, not_padded, backwards_through_two_calls, apart_where_none_is_modified, stop_in_a_procedure, return_in_a_loop, two_commas, carriage_returns, PackedAndPadded, NotPadded, BackwardsThroughTwoCalls, ApartWhereNoneIsModified, StopInAProcedure, ReturnInALoop, TwoCommas, CarriageReturns}
+use Rattle.array_meaning_rows.specs.SourcesTwo.{packed_and_padded, not_padded, backwards_through_two_calls}
+use Rattle.array_meaning_rows.specs.SourcesTwo.{apart_where_none_is_modified, stop_in_a_procedure, return_in_a_loop, two_commas}
+use Rattle.array_meaning_rows.specs.SourcesTwo.{carriage_returns, PackedAndPadded, NotPadded, BackwardsThroughTwoCalls}
+use Rattle.array_meaning_rows.specs.SourcesTwo.{ApartWhereNoneIsModified, StopInAProcedure, ReturnInALoop, TwoCommas}
+use Rattle.array_meaning_rows.specs.SourcesTwo.{CarriageReturns}
 
 pub packed_and_padded_row : PackedAndPadded
 unfolding running packed_and_padded

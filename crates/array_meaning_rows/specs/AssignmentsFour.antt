@@ -6,7 +6,9 @@ use Rattle.f95_unit.specs.declared.operation.Inquiry.TheVariants as inquiry
 use Rattle.f95_unit.specs.declared.operation.Reduction.TheVariants as reduction
 use Rattle.f95_unit.specs.declared.unit.DeclaredType.TheVariants as declared
 use Rattle.f95_unit.specs.declared.unit.Role.TheVariants as role
-use Rattle.f95_unit.specs.Plain.{typed, Named, Unary, Binary, Constructor, Asked, Reduced, at, Whole, Subscripted, no_subscript, subscript, Vector, SubscriptTriplet, Absent, Given, AllOf, no_item, value, loop, no_argument, argument, Of, Assigns, Print, no_stmt, stmt, Scalars, Explicit, Program}
+use Rattle.f95_unit.specs.Plain.{typed, Named, Unary, Binary, Constructor, Asked, Reduced, at, Whole, Subscripted, no_subscript}
+use Rattle.f95_unit.specs.Plain.{subscript, Vector, SubscriptTriplet, Absent, Given, AllOf, no_item, value, loop, no_argument}
+use Rattle.f95_unit.specs.Plain.{argument, Of, Assigns, Print, no_stmt, stmt, Scalars, Explicit, Program}
 use Rattle.array_meaning.specs.Build.{ints, int, index_at, target, assign, span, entity, procedure, program, num, neg, ended, Comes}
 
 --     program p

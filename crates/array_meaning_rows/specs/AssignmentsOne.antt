@@ -6,8 +6,11 @@ use Rattle.f95_unit.specs.declared.operation.Elemental.TheVariants as elemental
 use Rattle.f95_unit.specs.declared.unit.DeclaredType.TheVariants as declared
 use Rattle.f95_unit.specs.declared.unit.Length.TheVariants as long
 use Rattle.f95_unit.specs.declared.unit.Role.TheVariants as role
-use Rattle.f95_unit.specs.Plain.{typed, Named, Brackets, Unary, Binary, Constructor, Elementwise, at, Whole, Subscripted, no_subscript, subscript, One, Vector, SubscriptTriplet, Absent, Given, AllOf, no_item, value, no_argument, argument, Assigns, ForAll, Print, no_stmt, stmt, Scalars, Explicit, Program}
-use Rattle.array_meaning.specs.Build.{ints, texts, int, text, index_at, target, assign, triplet, forall_over, span, entity, procedure, program, num, chars, ended, Comes}
+use Rattle.f95_unit.specs.Plain.{typed, Named, Brackets, Unary, Binary, Constructor, Elementwise, at, Whole, Subscripted}
+use Rattle.f95_unit.specs.Plain.{no_subscript, subscript, One, Vector, SubscriptTriplet, Absent, Given, AllOf, no_item, value}
+use Rattle.f95_unit.specs.Plain.{no_argument, argument, Assigns, ForAll, Print, no_stmt, stmt, Scalars, Explicit, Program}
+use Rattle.array_meaning.specs.Build.{ints, texts, int, text, index_at, target, assign, triplet, forall_over, span, entity}
+use Rattle.array_meaning.specs.Build.{procedure, program, num, chars, ended, Comes}
 
 --     program p; integer :: a(3); a = 2; print *, a; end
 unfoldable pub whole_arrays : Program

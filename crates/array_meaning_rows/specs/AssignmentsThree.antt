@@ -4,8 +4,11 @@ use Rattle.f95_unit.specs.declared.operation.BinaryOp.TheVariants as binary
 use Rattle.f95_unit.specs.declared.operation.Reduction.TheVariants as reduction
 use Rattle.f95_unit.specs.declared.unit.DeclaredType.TheVariants as declared
 use Rattle.f95_unit.specs.declared.unit.Role.TheVariants as role
-use Rattle.f95_unit.specs.Plain.{typed, Named, Binary, Constructor, Reduced, at, Whole, Subscripted, no_subscript, subscript, One, Absent, AllOf, no_item, value, loop, no_argument, argument, Assigns, ForAll, Print, no_stmt, stmt, Scalars, Explicit, Program}
-use Rattle.array_meaning.specs.Build.{ints, logs, int, index_at, target, assign, triplet, forall_over, span, entity, procedure, program, num, ended, Comes}
+use Rattle.f95_unit.specs.Plain.{typed, Named, Binary, Constructor, Reduced, at, Whole, Subscripted, no_subscript, subscript, One}
+use Rattle.f95_unit.specs.Plain.{Absent, AllOf, no_item, value, loop, no_argument, argument, Assigns, ForAll, Print, no_stmt, stmt}
+use Rattle.f95_unit.specs.Plain.{Scalars, Explicit, Program}
+use Rattle.array_meaning.specs.Build.{ints, logs, int, index_at, target, assign, triplet, forall_over, span, entity, procedure}
+use Rattle.array_meaning.specs.Build.{program, num, ended, Comes}
 
 --     program trial
 --     integer :: a(64), b(64), c(64)

@@ -9,8 +9,12 @@ use Rattle.f95_unit.specs.declared.unit.DeclaredType.TheVariants as declared
 use Rattle.f95_unit.specs.declared.unit.Length.TheVariants as long
 use Rattle.f95_unit.specs.declared.unit.Role.TheVariants as role
 use Rattle.f95_unit.specs.declared.unit.Intent.TheVariants as intent
-use Rattle.f95_unit.specs.Plain.{typed, Named, Binary, Constructor, Asked, Reduced, Called, at, Whole, Subscripted, no_subscript, subscript, One, SubscriptTriplet, Absent, Given, AllOf, no_item, value, no_argument, argument, Name, Of, call, Assigns, Calls, Print, If, Do, Return, no_stmt, stmt, no_branch, branch, Scalars, Explicit, Assumed, Program}
-use Rattle.array_meaning.specs.Build.{ints, logs, texts, some_texts, int, text, constant_at, target, assign, span, entity, procedure, program, num, chars, ended, faulted, Comes}
+use Rattle.f95_unit.specs.Plain.{typed, Named, Binary, Constructor, Asked, Reduced, Called, at, Whole, Subscripted, no_subscript}
+use Rattle.f95_unit.specs.Plain.{subscript, One, SubscriptTriplet, Absent, Given, AllOf, no_item, value, no_argument, argument}
+use Rattle.f95_unit.specs.Plain.{Name, Of, call, Assigns, Calls, Print, If, Do, Return, no_stmt, stmt, no_branch, branch, Scalars}
+use Rattle.f95_unit.specs.Plain.{Explicit, Assumed, Program}
+use Rattle.array_meaning.specs.Build.{ints, logs, texts, some_texts, int, text, constant_at, target, assign, span, entity}
+use Rattle.array_meaning.specs.Build.{procedure, program, num, chars, ended, faulted, Comes}
 
 --     program p
 --     integer :: a(5)

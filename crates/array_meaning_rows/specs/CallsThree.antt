@@ -4,7 +4,8 @@ use Rattle.a95_base.specs.declared.fault.FaultKind.TheVariants as fault
 use Rattle.f95_unit.specs.declared.unit.DeclaredType.TheVariants as declared
 use Rattle.f95_unit.specs.declared.unit.Role.TheVariants as role
 use Rattle.f95_unit.specs.declared.unit.Intent.TheVariants as intent
-use Rattle.f95_unit.specs.Plain.{typed, Named, at, Whole, Absent, AllOf, no_argument, argument, call, Assigns, Calls, no_stmt, stmt, Scalars, Explicit, Program}
+use Rattle.f95_unit.specs.Plain.{typed, Named, at, Whole, Absent, AllOf, no_argument, argument, call, Assigns, Calls, no_stmt, stmt}
+use Rattle.f95_unit.specs.Plain.{Scalars, Explicit, Program}
 use Rattle.array_meaning.specs.Build.{ints, int, target, assign, span, entity, procedure, program, faulted, Comes}
 
 --     program p

@@ -9,8 +9,13 @@ use Rattle.f95_unit.specs.declared.unit.DeclaredType.TheVariants as declared
 use Rattle.f95_unit.specs.declared.unit.Length.TheVariants as long
 use Rattle.f95_unit.specs.declared.unit.Role.TheVariants as role
 use Rattle.f95_unit.specs.declared.unit.Intent.TheVariants as intent
-use Rattle.f95_unit.specs.Plain.{typed, Named, Brackets, Unary, Binary, Constructor, Trim, Asked, Rearranged, Called, at, Whole, Subscripted, no_subscript, subscript, One, Vector, SubscriptTriplet, Absent, Given, AllOf, no_item, value, no_argument, argument, Name, call, masked, no_masked, assigning, no_other, elsewhere, Assigns, Masks, Calls, Allocate, Print, Do, no_stmt, stmt, Scalars, Explicit, Assumed, Deferred, Program}
-use Rattle.array_meaning.specs.Build.{ints, logs, texts, some_texts, int, text, target, assign, span, allocation, entity, procedure, program, num, chars, ended, faulted, going, Comes}
+use Rattle.f95_unit.specs.Plain.{typed, Named, Brackets, Unary, Binary, Constructor, Trim, Asked, Rearranged, Called, at, Whole}
+use Rattle.f95_unit.specs.Plain.{Subscripted, no_subscript, subscript, One, Vector, SubscriptTriplet, Absent, Given, AllOf, no_item}
+use Rattle.f95_unit.specs.Plain.{value, no_argument, argument, Name, call, masked, no_masked, assigning, no_other, elsewhere}
+use Rattle.f95_unit.specs.Plain.{Assigns, Masks, Calls, Allocate, Print, Do, no_stmt, stmt, Scalars, Explicit, Assumed, Deferred}
+use Rattle.f95_unit.specs.Plain.{Program}
+use Rattle.array_meaning.specs.Build.{ints, logs, texts, some_texts, int, text, target, assign, span, allocation, entity, procedure}
+use Rattle.array_meaning.specs.Build.{program, num, chars, ended, faulted, going, Comes}
 
 --     program p
 --     integer :: i

@@ -6,8 +6,11 @@ use Rattle.f95_unit.specs.declared.operation.BinaryOp.TheVariants as binary
 use Rattle.f95_unit.specs.declared.stmt.Range.TheVariants as range
 use Rattle.f95_unit.specs.declared.unit.DeclaredType.TheVariants as declared
 use Rattle.f95_unit.specs.declared.unit.Role.TheVariants as role
-use Rattle.f95_unit.specs.Plain.{typed, Named, Unary, Binary, at, Whole, Absent, Given, AllOf, Assigns, Print, If, Select, Do, While, Forever, Exit, Cycle, Stop, no_stmt, stmt, no_branch, branch, no_case, case, Scalars, Program}
-use Rattle.array_meaning.specs.Build.{ints, logs, int, text, target, assign, entity, procedure, program, num, neg, chars, ended, going, Comes}
+use Rattle.f95_unit.specs.Plain.{typed, Named, Unary, Binary, at, Whole, Absent, Given, AllOf, Assigns, Print, If, Select, Do}
+use Rattle.f95_unit.specs.Plain.{While, Forever, Exit, Cycle, Stop, no_stmt, stmt, no_branch, branch, no_case, case, Scalars}
+use Rattle.f95_unit.specs.Plain.{Program}
+use Rattle.array_meaning.specs.Build.{ints, logs, int, text, target, assign, entity, procedure, program, num, neg, chars, ended}
+use Rattle.array_meaning.specs.Build.{going, Comes}
 
 --     program p
 --     integer :: i

@@ -11,8 +11,12 @@ use Rattle.f95_unit.specs.declared.unit.DeclaredType.TheVariants as declared
 use Rattle.f95_unit.specs.declared.unit.Length.TheVariants as long
 use Rattle.f95_unit.specs.declared.unit.Role.TheVariants as role
 use Rattle.f95_unit.specs.declared.unit.Intent.TheVariants as intent
-use Rattle.f95_unit.specs.Plain.{typed, Named, Unary, Binary, Constructor, Asked, Reduced, Rearranged, Called, at, Whole, Subscripted, no_subscript, subscript, One, Vector, SubscriptTriplet, Absent, Given, AllOf, no_item, value, loop, no_argument, argument, Name, call, Assigns, Calls, Print, If, Select, Do, Exit, Cycle, no_stmt, stmt, no_branch, branch, no_case, case, Scalars, Explicit, Assumed, Program}
-use Rattle.array_meaning.specs.Build.{ints, logs, texts, int, text, index_at, target, assign, span, entity, procedure, program, num, neg, chars, truth, ended, faulted, Comes}
+use Rattle.f95_unit.specs.Plain.{typed, Named, Unary, Binary, Constructor, Asked, Reduced, Rearranged, Called, at, Whole}
+use Rattle.f95_unit.specs.Plain.{Subscripted, no_subscript, subscript, One, Vector, SubscriptTriplet, Absent, Given, AllOf, no_item}
+use Rattle.f95_unit.specs.Plain.{value, loop, no_argument, argument, Name, call, Assigns, Calls, Print, If, Select, Do, Exit, Cycle}
+use Rattle.f95_unit.specs.Plain.{no_stmt, stmt, no_branch, branch, no_case, case, Scalars, Explicit, Assumed, Program}
+use Rattle.array_meaning.specs.Build.{ints, logs, texts, int, text, index_at, target, assign, span, entity, procedure, program, num}
+use Rattle.array_meaning.specs.Build.{neg, chars, truth, ended, faulted, Comes}
 
 --     program p
 --     integer :: i, k

@@ -8,8 +8,12 @@ use Rattle.f95_unit.specs.declared.operation.Inquiry.TheVariants as inquiry
 use Rattle.f95_unit.specs.declared.stmt.Range.TheVariants as range
 use Rattle.f95_unit.specs.declared.unit.DeclaredType.TheVariants as declared
 use Rattle.f95_unit.specs.declared.unit.Role.TheVariants as role
-use Rattle.f95_unit.specs.Plain.{typed, Named, Unary, Binary, Constructor, Asked, at, Whole, Subscripted, no_subscript, subscript, One, SubscriptTriplet, Absent, Given, AllOf, no_item, value, loop, Name, Assigns, Allocate, Deallocate, Print, If, Select, Do, no_stmt, stmt, no_branch, branch, no_case, case, Scalars, Deferred, Program}
-use Rattle.array_meaning.specs.Build.{ints, logs, texts, int, log, text, index_at, target, assign, span, allocation, entity, procedure, program, num, neg, chars, truth, ended, faulted, going, Comes}
+use Rattle.f95_unit.specs.Plain.{typed, Named, Unary, Binary, Constructor, Asked, at, Whole, Subscripted, no_subscript, subscript}
+use Rattle.f95_unit.specs.Plain.{One, SubscriptTriplet, Absent, Given, AllOf, no_item, value, loop, Name, Assigns, Allocate}
+use Rattle.f95_unit.specs.Plain.{Deallocate, Print, If, Select, Do, no_stmt, stmt, no_branch, branch, no_case, case, Scalars}
+use Rattle.f95_unit.specs.Plain.{Deferred, Program}
+use Rattle.array_meaning.specs.Build.{ints, logs, texts, int, log, text, index_at, target, assign, span, allocation, entity}
+use Rattle.array_meaning.specs.Build.{procedure, program, num, neg, chars, truth, ended, faulted, going, Comes}
 
 --     program p
 --     integer, allocatable :: a(:,:)

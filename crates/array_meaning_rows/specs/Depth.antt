@@ -5,7 +5,8 @@ use Rattle.f95_unit.specs.declared.operation.BinaryOp.TheVariants as binary
 use Rattle.f95_unit.specs.declared.unit.DeclaredType.TheVariants as declared
 use Rattle.f95_unit.specs.declared.unit.Role.TheVariants as role
 use Rattle.f95_unit.specs.declared.unit.Intent.TheVariants as intent
-use Rattle.f95_unit.specs.Plain.{typed, Named, Binary, at, Whole, Absent, AllOf, no_argument, argument, call, Calls, If, no_stmt, stmt, no_branch, branch, Scalars, Explicit, Assumed, Program}
+use Rattle.f95_unit.specs.Plain.{typed, Named, Binary, at, Whole, Absent, AllOf, no_argument, argument, call, Calls, If, no_stmt}
+use Rattle.f95_unit.specs.Plain.{stmt, no_branch, branch, Scalars, Explicit, Assumed, Program}
 use Rattle.array_meaning.specs.Build.{ints, logs, int, span, entity, procedure, program, faulted, going, Comes}
 
 --     program p

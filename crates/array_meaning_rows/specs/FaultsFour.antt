@@ -4,7 +4,8 @@ use Rattle.a95_base.specs.declared.fault.FaultKind.TheVariants as fault
 use Rattle.f95_unit.specs.declared.unit.DeclaredType.TheVariants as declared
 use Rattle.f95_unit.specs.declared.unit.Role.TheVariants as role
 use Rattle.f95_unit.specs.declared.unit.Intent.TheVariants as intent
-use Rattle.f95_unit.specs.Plain.{typed, Named, at, Whole, Subscripted, no_subscript, subscript, One, Absent, AllOf, no_argument, argument, call, Assigns, Calls, Print, no_stmt, stmt, Explicit, Assumed, Deferred, Program}
+use Rattle.f95_unit.specs.Plain.{typed, Named, at, Whole, Subscripted, no_subscript, subscript, One, Absent, AllOf, no_argument}
+use Rattle.f95_unit.specs.Plain.{argument, call, Assigns, Calls, Print, no_stmt, stmt, Explicit, Assumed, Deferred, Program}
 use Rattle.array_meaning.specs.Build.{ints, int, target, assign, span, entity, procedure, program, num, faulted, Comes}
 
 --     program p

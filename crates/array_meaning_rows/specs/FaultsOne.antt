@@ -7,8 +7,11 @@ use Rattle.f95_unit.specs.declared.operation.Elemental.TheVariants as elemental
 use Rattle.f95_unit.specs.declared.unit.DeclaredType.TheVariants as declared
 use Rattle.f95_unit.specs.declared.unit.Length.TheVariants as long
 use Rattle.f95_unit.specs.declared.unit.Role.TheVariants as role
-use Rattle.f95_unit.specs.Plain.{typed, Named, Brackets, Unary, Binary, Constructor, Elementwise, at, Whole, Subscripted, no_subscript, subscript, One, Vector, SubscriptTriplet, Absent, Given, AllOf, BytesOf, no_item, value, no_argument, argument, Assigns, Print, Do, no_stmt, stmt, Scalars, Explicit, Program}
-use Rattle.array_meaning.specs.Build.{ints, texts, some_texts, int, target, assign, span, entity, procedure, program, num, chars, faulted, Comes}
+use Rattle.f95_unit.specs.Plain.{typed, Named, Brackets, Unary, Binary, Constructor, Elementwise, at, Whole, Subscripted}
+use Rattle.f95_unit.specs.Plain.{no_subscript, subscript, One, Vector, SubscriptTriplet, Absent, Given, AllOf, BytesOf, no_item}
+use Rattle.f95_unit.specs.Plain.{value, no_argument, argument, Assigns, Print, Do, no_stmt, stmt, Scalars, Explicit, Program}
+use Rattle.array_meaning.specs.Build.{ints, texts, some_texts, int, target, assign, span, entity, procedure, program, num, chars}
+use Rattle.array_meaning.specs.Build.{faulted, Comes}
 
 --     program p
 --     integer :: a(2), b(2)

@@ -8,8 +8,12 @@ use Rattle.f95_unit.specs.declared.unit.DeclaredType.TheVariants as declared
 use Rattle.f95_unit.specs.declared.unit.Length.TheVariants as long
 use Rattle.f95_unit.specs.declared.unit.Role.TheVariants as role
 use Rattle.f95_unit.specs.declared.unit.Intent.TheVariants as intent
-use Rattle.f95_unit.specs.Plain.{typed, Named, Binary, Elementwise, Reduced, Called, at, Whole, Subscripted, no_subscript, subscript, One, SubscriptTriplet, Absent, Given, AllOf, BytesOf, no_argument, argument, call, masked, no_masked, assigning, no_other, Assigns, Masks, Print, no_stmt, stmt, Scalars, Explicit, Program}
-use Rattle.array_meaning.specs.Build.{ints, logs, some_texts, int, target, assign, span, entity, procedure, program, num, ended, faulted, Comes}
+use Rattle.f95_unit.specs.Plain.{typed, Named, Binary, Elementwise, Reduced, Called, at, Whole, Subscripted, no_subscript}
+use Rattle.f95_unit.specs.Plain.{subscript, One, SubscriptTriplet, Absent, Given, AllOf, BytesOf, no_argument, argument, call}
+use Rattle.f95_unit.specs.Plain.{masked, no_masked, assigning, no_other, Assigns, Masks, Print, no_stmt, stmt, Scalars, Explicit}
+use Rattle.f95_unit.specs.Plain.{Program}
+use Rattle.array_meaning.specs.Build.{ints, logs, some_texts, int, target, assign, span, entity, procedure, program, num, ended}
+use Rattle.array_meaning.specs.Build.{faulted, Comes}
 
 --     program p
 --     integer :: a(2,3), b(2,2), n

@@ -7,8 +7,11 @@ use Rattle.f95_unit.specs.declared.operation.Inquiry.TheVariants as inquiry
 use Rattle.f95_unit.specs.declared.operation.Rearranging.TheVariants as rearranging
 use Rattle.f95_unit.specs.declared.unit.DeclaredType.TheVariants as declared
 use Rattle.f95_unit.specs.declared.unit.Role.TheVariants as role
-use Rattle.f95_unit.specs.Plain.{typed, Named, Binary, Constructor, Elementwise, Asked, Rearranged, at, Whole, Subscripted, no_subscript, subscript, One, Absent, AllOf, no_item, value, no_argument, argument, Name, Assigns, ForAll, Allocate, Deallocate, Print, no_stmt, stmt, Scalars, Explicit, Deferred, Program}
-use Rattle.array_meaning.specs.Build.{ints, logs, texts, int, index_at, target, assign, triplet, forall_over, span, allocation, entity, procedure, program, faulted, Comes}
+use Rattle.f95_unit.specs.Plain.{typed, Named, Binary, Constructor, Elementwise, Asked, Rearranged, at, Whole, Subscripted}
+use Rattle.f95_unit.specs.Plain.{no_subscript, subscript, One, Absent, AllOf, no_item, value, no_argument, argument, Name, Assigns}
+use Rattle.f95_unit.specs.Plain.{ForAll, Allocate, Deallocate, Print, no_stmt, stmt, Scalars, Explicit, Deferred, Program}
+use Rattle.array_meaning.specs.Build.{ints, logs, texts, int, index_at, target, assign, triplet, forall_over, span, allocation}
+use Rattle.array_meaning.specs.Build.{entity, procedure, program, faulted, Comes}
 
 --     program p
 --     integer :: a(3), i

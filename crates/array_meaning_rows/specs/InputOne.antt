@@ -5,8 +5,11 @@ use Rattle.f95_unit.specs.declared.operation.UnaryOp.TheVariants as unary
 use Rattle.f95_unit.specs.declared.operation.Reduction.TheVariants as reduction
 use Rattle.f95_unit.specs.declared.unit.DeclaredType.TheVariants as declared
 use Rattle.f95_unit.specs.declared.unit.Role.TheVariants as role
-use Rattle.f95_unit.specs.Plain.{typed, Named, Unary, Constructor, Reduced, at, Whole, Subscripted, no_subscript, subscript, One, Vector, SubscriptTriplet, Absent, Given, AllOf, no_item, value, no_argument, argument, Assigns, Allocate, Print, Read, no_stmt, stmt, Scalars, Explicit, Deferred, Program}
-use Rattle.array_meaning.specs.Build.{ints, int, text, target, assign, span, allocation, entity, procedure, program, num, neg, chars, ended, faulted, Comes}
+use Rattle.f95_unit.specs.Plain.{typed, Named, Unary, Constructor, Reduced, at, Whole, Subscripted, no_subscript, subscript, One}
+use Rattle.f95_unit.specs.Plain.{Vector, SubscriptTriplet, Absent, Given, AllOf, no_item, value, no_argument, argument, Assigns}
+use Rattle.f95_unit.specs.Plain.{Allocate, Print, Read, no_stmt, stmt, Scalars, Explicit, Deferred, Program}
+use Rattle.array_meaning.specs.Build.{ints, int, text, target, assign, span, allocation, entity, procedure, program, num, neg}
+use Rattle.array_meaning.specs.Build.{chars, ended, faulted, Comes}
 
 --     program p; integer :: n; integer, allocatable :: a(:); read *, n; allocate(a(n)); read *, a; print *, a(n:1:-1), sum(a); end
 unfoldable pub read_and_print : Program

@@ -4,7 +4,8 @@ use Rattle.a95_base.specs.declared.fault.FaultKind.TheVariants as fault
 use Rattle.f95_unit.specs.declared.operation.UnaryOp.TheVariants as unary
 use Rattle.f95_unit.specs.declared.unit.DeclaredType.TheVariants as declared
 use Rattle.f95_unit.specs.declared.unit.Role.TheVariants as role
-use Rattle.f95_unit.specs.Plain.{typed, Named, Unary, at, Whole, Subscripted, no_subscript, subscript, SubscriptTriplet, Absent, Given, AllOf, Print, Read, no_stmt, stmt, Explicit, Program}
+use Rattle.f95_unit.specs.Plain.{typed, Named, Unary, at, Whole, Subscripted, no_subscript, subscript, SubscriptTriplet, Absent}
+use Rattle.f95_unit.specs.Plain.{Given, AllOf, Print, Read, no_stmt, stmt, Explicit, Program}
 use Rattle.array_meaning.specs.Build.{ints, int, target, span, entity, procedure, program, faulted, Comes}
 
 --     program p

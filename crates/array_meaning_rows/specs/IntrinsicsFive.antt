@@ -9,8 +9,12 @@ use Rattle.f95_unit.specs.declared.operation.Rearranging.TheVariants as rearrang
 use Rattle.f95_unit.specs.declared.unit.DeclaredType.TheVariants as declared
 use Rattle.f95_unit.specs.declared.unit.Length.TheVariants as long
 use Rattle.f95_unit.specs.declared.unit.Role.TheVariants as role
-use Rattle.f95_unit.specs.Plain.{typed, Named, Unary, Binary, Constructor, Elementwise, Asked, Reduced, Rearranged, at, Whole, Subscripted, no_subscript, subscript, One, Vector, SubscriptTriplet, Absent, Given, AllOf, BytesOf, no_item, value, loop, no_argument, argument, Of, Assigns, Print, no_stmt, stmt, Scalars, Explicit, Program}
-use Rattle.array_meaning.specs.Build.{ints, logs, texts, some_texts, int, log, text, index_at, target, assign, span, entity, procedure, program, num, neg, chars, truth, ended, Comes}
+use Rattle.f95_unit.specs.Plain.{typed, Named, Unary, Binary, Constructor, Elementwise, Asked, Reduced, Rearranged, at, Whole}
+use Rattle.f95_unit.specs.Plain.{Subscripted, no_subscript, subscript, One, Vector, SubscriptTriplet, Absent, Given, AllOf, BytesOf}
+use Rattle.f95_unit.specs.Plain.{no_item, value, loop, no_argument, argument, Of, Assigns, Print, no_stmt, stmt, Scalars, Explicit}
+use Rattle.f95_unit.specs.Plain.{Program}
+use Rattle.array_meaning.specs.Build.{ints, logs, texts, some_texts, int, log, text, index_at, target, assign, span, entity}
+use Rattle.array_meaning.specs.Build.{procedure, program, num, neg, chars, truth, ended, Comes}
 
 --     program p
 --     integer :: a(5), b(2,3)

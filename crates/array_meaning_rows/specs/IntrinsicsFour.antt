@@ -7,8 +7,11 @@ use Rattle.f95_unit.specs.declared.operation.Inquiry.TheVariants as inquiry
 use Rattle.f95_unit.specs.declared.operation.Rearranging.TheVariants as rearranging
 use Rattle.f95_unit.specs.declared.unit.DeclaredType.TheVariants as declared
 use Rattle.f95_unit.specs.declared.unit.Role.TheVariants as role
-use Rattle.f95_unit.specs.Plain.{typed, Named, Unary, Binary, Constructor, Elementwise, Asked, Rearranged, at, Whole, Subscripted, no_subscript, subscript, One, SubscriptTriplet, Absent, Given, AllOf, no_item, value, loop, no_argument, argument, Name, Of, Assigns, Print, no_stmt, stmt, Scalars, Explicit, Program}
-use Rattle.array_meaning.specs.Build.{ints, logs, int, log, index_at, target, assign, span, entity, procedure, program, num, neg, truth, ended, Comes}
+use Rattle.f95_unit.specs.Plain.{typed, Named, Unary, Binary, Constructor, Elementwise, Asked, Rearranged, at, Whole, Subscripted}
+use Rattle.f95_unit.specs.Plain.{no_subscript, subscript, One, SubscriptTriplet, Absent, Given, AllOf, no_item, value, loop}
+use Rattle.f95_unit.specs.Plain.{no_argument, argument, Name, Of, Assigns, Print, no_stmt, stmt, Scalars, Explicit, Program}
+use Rattle.array_meaning.specs.Build.{ints, logs, int, log, index_at, target, assign, span, entity, procedure, program, num, neg}
+use Rattle.array_meaning.specs.Build.{truth, ended, Comes}
 
 --     program p
 --     integer :: a(3:2), b(-4:-1,5:3)

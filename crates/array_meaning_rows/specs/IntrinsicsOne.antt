@@ -9,8 +9,11 @@ use Rattle.f95_unit.specs.declared.operation.Rearranging.TheVariants as rearrang
 use Rattle.f95_unit.specs.declared.unit.DeclaredType.TheVariants as declared
 use Rattle.f95_unit.specs.declared.unit.Length.TheVariants as long
 use Rattle.f95_unit.specs.declared.unit.Role.TheVariants as role
-use Rattle.f95_unit.specs.Plain.{typed, Named, Unary, Binary, Constructor, Elementwise, Trim, Asked, Reduced, Rearranged, at, Whole, Subscripted, no_subscript, subscript, SubscriptTriplet, Absent, Given, AllOf, no_item, value, no_argument, argument, Name, Of, Assigns, Print, no_stmt, stmt, Scalars, Explicit, Program}
-use Rattle.array_meaning.specs.Build.{ints, logs, texts, some_texts, int, log, text, target, assign, span, entity, procedure, program, num, neg, chars, truth, ended, Comes}
+use Rattle.f95_unit.specs.Plain.{typed, Named, Unary, Binary, Constructor, Elementwise, Trim, Asked, Reduced, Rearranged, at, Whole}
+use Rattle.f95_unit.specs.Plain.{Subscripted, no_subscript, subscript, SubscriptTriplet, Absent, Given, AllOf, no_item, value}
+use Rattle.f95_unit.specs.Plain.{no_argument, argument, Name, Of, Assigns, Print, no_stmt, stmt, Scalars, Explicit, Program}
+use Rattle.array_meaning.specs.Build.{ints, logs, texts, some_texts, int, log, text, target, assign, span, entity, procedure}
+use Rattle.array_meaning.specs.Build.{program, num, neg, chars, truth, ended, Comes}
 
 --     program p; print *, abs(-3), mod(7,-3), modulo(7,-3), modulo(-7,3), sign(5,-2), sign(-5,0), max(3,9,4), min(3,-9,4); end
 unfoldable pub integer_functions : Program

@@ -8,8 +8,11 @@ use Rattle.f95_unit.specs.declared.operation.Reduction.TheVariants as reduction
 use Rattle.f95_unit.specs.declared.operation.Rearranging.TheVariants as rearranging
 use Rattle.f95_unit.specs.declared.unit.DeclaredType.TheVariants as declared
 use Rattle.f95_unit.specs.declared.unit.Role.TheVariants as role
-use Rattle.f95_unit.specs.Plain.{typed, Named, Unary, Binary, Constructor, Asked, Reduced, Rearranged, at, Whole, Subscripted, no_subscript, subscript, One, SubscriptTriplet, Absent, Given, AllOf, no_item, value, no_argument, argument, Of, Assigns, Print, no_stmt, stmt, Scalars, Explicit, Program}
-use Rattle.array_meaning.specs.Build.{ints, logs, int, log, target, assign, span, entity, procedure, program, num, truth, ended, faulted, Comes}
+use Rattle.f95_unit.specs.Plain.{typed, Named, Unary, Binary, Constructor, Asked, Reduced, Rearranged, at, Whole, Subscripted}
+use Rattle.f95_unit.specs.Plain.{no_subscript, subscript, One, SubscriptTriplet, Absent, Given, AllOf, no_item, value, no_argument}
+use Rattle.f95_unit.specs.Plain.{argument, Of, Assigns, Print, no_stmt, stmt, Scalars, Explicit, Program}
+use Rattle.array_meaning.specs.Build.{ints, logs, int, log, target, assign, span, entity, procedure, program, num, truth, ended}
+use Rattle.array_meaning.specs.Build.{faulted, Comes}
 
 --     program p; integer :: n; n = -1; print *, reshape((/1,2/), (/n/)); end
 unfoldable pub shape_is_negative : Program

@@ -9,8 +9,11 @@ use Rattle.f95_unit.specs.declared.operation.Reduction.TheVariants as reduction
 use Rattle.f95_unit.specs.declared.operation.Rearranging.TheVariants as rearranging
 use Rattle.f95_unit.specs.declared.unit.DeclaredType.TheVariants as declared
 use Rattle.f95_unit.specs.declared.unit.Role.TheVariants as role
-use Rattle.f95_unit.specs.Plain.{typed, Named, Brackets, Unary, Binary, Constructor, Elementwise, Asked, Reduced, Rearranged, at, Whole, Subscripted, no_subscript, subscript, SubscriptTriplet, Absent, Given, AllOf, no_item, value, loop, no_argument, argument, Of, Assigns, Print, no_stmt, stmt, Scalars, Explicit, Program}
-use Rattle.array_meaning.specs.Build.{ints, logs, texts, int, log, text, index_at, target, assign, span, entity, procedure, program, num, neg, chars, ended, faulted, Comes}
+use Rattle.f95_unit.specs.Plain.{typed, Named, Brackets, Unary, Binary, Constructor, Elementwise, Asked, Reduced, Rearranged, at}
+use Rattle.f95_unit.specs.Plain.{Whole, Subscripted, no_subscript, subscript, SubscriptTriplet, Absent, Given, AllOf, no_item}
+use Rattle.f95_unit.specs.Plain.{value, loop, no_argument, argument, Of, Assigns, Print, no_stmt, stmt, Scalars, Explicit, Program}
+use Rattle.array_meaning.specs.Build.{ints, logs, texts, int, log, text, index_at, target, assign, span, entity, procedure, program}
+use Rattle.array_meaning.specs.Build.{num, neg, chars, ended, faulted, Comes}
 
 --     program p
 --     integer :: a(2,3)

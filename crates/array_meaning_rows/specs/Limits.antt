@@ -8,8 +8,11 @@ use Rattle.f95_unit.specs.declared.unit.DeclaredType.TheVariants as declared
 use Rattle.f95_unit.specs.declared.unit.Length.TheVariants as long
 use Rattle.f95_unit.specs.declared.unit.Role.TheVariants as role
 use Rattle.f95_unit.specs.declared.unit.Intent.TheVariants as intent
-use Rattle.f95_unit.specs.Plain.{typed, Named, Unary, Binary, Constructor, Asked, at, Whole, Subscripted, no_subscript, subscript, One, SubscriptTriplet, Absent, Given, AllOf, BytesOf, no_item, value, loop, no_argument, argument, Name, Of, call, Assigns, Calls, Print, Do, no_stmt, stmt, Scalars, Explicit, Assumed, Program}
-use Rattle.array_meaning.specs.Build.{ints, texts, int, index_at, target, assign, span, entity, procedure, program, num, neg, ended, faulted, Comes}
+use Rattle.f95_unit.specs.Plain.{typed, Named, Unary, Binary, Constructor, Asked, at, Whole, Subscripted, no_subscript, subscript}
+use Rattle.f95_unit.specs.Plain.{One, SubscriptTriplet, Absent, Given, AllOf, BytesOf, no_item, value, loop, no_argument, argument}
+use Rattle.f95_unit.specs.Plain.{Name, Of, call, Assigns, Calls, Print, Do, no_stmt, stmt, Scalars, Explicit, Assumed, Program}
+use Rattle.array_meaning.specs.Build.{ints, texts, int, index_at, target, assign, span, entity, procedure, program, num, neg, ended}
+use Rattle.array_meaning.specs.Build.{faulted, Comes}
 
 --     program p
 --     integer :: a(2)

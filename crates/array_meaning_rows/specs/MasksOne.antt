@@ -6,8 +6,12 @@ use Rattle.f95_unit.specs.declared.operation.BinaryOp.TheVariants as binary
 use Rattle.f95_unit.specs.declared.operation.Reduction.TheVariants as reduction
 use Rattle.f95_unit.specs.declared.unit.DeclaredType.TheVariants as declared
 use Rattle.f95_unit.specs.declared.unit.Role.TheVariants as role
-use Rattle.f95_unit.specs.Plain.{typed, Named, Unary, Binary, Constructor, Reduced, at, Whole, Subscripted, no_subscript, subscript, One, Vector, SubscriptTriplet, Absent, Given, AllOf, no_item, value, no_argument, argument, masked, no_masked, assigning, narrowed, no_other, elsewhere, Assigns, Masks, ForAll, Print, no_stmt, stmt, Scalars, Explicit, Program}
-use Rattle.array_meaning.specs.Build.{ints, logs, int, log, index_at, target, assign, triplet, forall_over, span, entity, procedure, program, num, neg, ended, faulted, Comes}
+use Rattle.f95_unit.specs.Plain.{typed, Named, Unary, Binary, Constructor, Reduced, at, Whole, Subscripted, no_subscript, subscript}
+use Rattle.f95_unit.specs.Plain.{One, Vector, SubscriptTriplet, Absent, Given, AllOf, no_item, value, no_argument, argument, masked}
+use Rattle.f95_unit.specs.Plain.{no_masked, assigning, narrowed, no_other, elsewhere, Assigns, Masks, ForAll, Print, no_stmt, stmt}
+use Rattle.f95_unit.specs.Plain.{Scalars, Explicit, Program}
+use Rattle.array_meaning.specs.Build.{ints, logs, int, log, index_at, target, assign, triplet, forall_over, span, entity, procedure}
+use Rattle.array_meaning.specs.Build.{program, num, neg, ended, faulted, Comes}
 
 --     program p; integer :: a(3); a = (/1,-2,3/); where (a > 0); a = -a; elsewhere; a = 10; end where; print *, a; end
 unfoldable pub where_and_elsewhere : Program

@@ -7,8 +7,12 @@ use Rattle.f95_unit.specs.declared.operation.Inquiry.TheVariants as inquiry
 use Rattle.f95_unit.specs.declared.operation.Rearranging.TheVariants as rearranging
 use Rattle.f95_unit.specs.declared.unit.DeclaredType.TheVariants as declared
 use Rattle.f95_unit.specs.declared.unit.Role.TheVariants as role
-use Rattle.f95_unit.specs.Plain.{typed, Named, Brackets, Unary, Binary, Constructor, Elementwise, Asked, Rearranged, at, Whole, Subscripted, no_subscript, subscript, One, SubscriptTriplet, Absent, Given, AllOf, no_item, value, loop, no_argument, argument, Name, masked, no_masked, assigning, narrowed, no_other, elsewhere, Assigns, Masks, ForAll, Print, no_stmt, stmt, Scalars, Explicit, Program}
-use Rattle.array_meaning.specs.Build.{ints, logs, int, index_at, target, assign, triplet, forall_over, span, entity, procedure, program, num, neg, ended, Comes}
+use Rattle.f95_unit.specs.Plain.{typed, Named, Brackets, Unary, Binary, Constructor, Elementwise, Asked, Rearranged, at, Whole}
+use Rattle.f95_unit.specs.Plain.{Subscripted, no_subscript, subscript, One, SubscriptTriplet, Absent, Given, AllOf, no_item, value}
+use Rattle.f95_unit.specs.Plain.{loop, no_argument, argument, Name, masked, no_masked, assigning, narrowed, no_other, elsewhere}
+use Rattle.f95_unit.specs.Plain.{Assigns, Masks, ForAll, Print, no_stmt, stmt, Scalars, Explicit, Program}
+use Rattle.array_meaning.specs.Build.{ints, logs, int, index_at, target, assign, triplet, forall_over, span, entity, procedure}
+use Rattle.array_meaning.specs.Build.{program, num, neg, ended, Comes}
 
 --     program p
 --     integer :: a(4)

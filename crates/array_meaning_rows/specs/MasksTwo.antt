@@ -4,8 +4,12 @@ use Rattle.a95_base.specs.declared.fault.FaultKind.TheVariants as fault
 use Rattle.f95_unit.specs.declared.operation.BinaryOp.TheVariants as binary
 use Rattle.f95_unit.specs.declared.unit.DeclaredType.TheVariants as declared
 use Rattle.f95_unit.specs.declared.unit.Role.TheVariants as role
-use Rattle.f95_unit.specs.Plain.{typed, Named, Binary, Constructor, at, Whole, Subscripted, no_subscript, subscript, One, SubscriptTriplet, Absent, Given, AllOf, no_item, value, loop, masked, no_masked, assigning, narrowed, no_other, elsewhere, Assigns, Masks, ForAll, Print, no_stmt, stmt, Scalars, Explicit, Program}
-use Rattle.array_meaning.specs.Build.{ints, logs, int, index_at, target, assign, triplet, forall_over, span, entity, procedure, program, num, ended, faulted, Comes}
+use Rattle.f95_unit.specs.Plain.{typed, Named, Binary, Constructor, at, Whole, Subscripted, no_subscript, subscript, One}
+use Rattle.f95_unit.specs.Plain.{SubscriptTriplet, Absent, Given, AllOf, no_item, value, loop, masked, no_masked, assigning}
+use Rattle.f95_unit.specs.Plain.{narrowed, no_other, elsewhere, Assigns, Masks, ForAll, Print, no_stmt, stmt, Scalars, Explicit}
+use Rattle.f95_unit.specs.Plain.{Program}
+use Rattle.array_meaning.specs.Build.{ints, logs, int, index_at, target, assign, triplet, forall_over, span, entity, procedure}
+use Rattle.array_meaning.specs.Build.{program, num, ended, faulted, Comes}
 
 --     program p
 --     integer :: a(5), b(5)

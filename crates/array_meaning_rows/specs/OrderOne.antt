@@ -9,8 +9,11 @@ use Rattle.f95_unit.specs.declared.unit.DeclaredType.TheVariants as declared
 use Rattle.f95_unit.specs.declared.unit.Length.TheVariants as long
 use Rattle.f95_unit.specs.declared.unit.Role.TheVariants as role
 use Rattle.f95_unit.specs.declared.unit.Intent.TheVariants as intent
-use Rattle.f95_unit.specs.Plain.{typed, Named, Binary, Constructor, Elementwise, Reduced, Rearranged, at, Whole, Subscripted, no_subscript, subscript, One, SubscriptTriplet, Absent, Given, AllOf, no_item, value, no_argument, argument, call, Assigns, ForAll, Calls, Print, no_stmt, stmt, Scalars, Explicit, Assumed, Program}
-use Rattle.array_meaning.specs.Build.{ints, logs, texts, some_texts, int, index_at, target, assign, triplet, forall_over, span, entity, procedure, program, faulted, Comes}
+use Rattle.f95_unit.specs.Plain.{typed, Named, Binary, Constructor, Elementwise, Reduced, Rearranged, at, Whole, Subscripted}
+use Rattle.f95_unit.specs.Plain.{no_subscript, subscript, One, SubscriptTriplet, Absent, Given, AllOf, no_item, value, no_argument}
+use Rattle.f95_unit.specs.Plain.{argument, call, Assigns, ForAll, Calls, Print, no_stmt, stmt, Scalars, Explicit, Assumed, Program}
+use Rattle.array_meaning.specs.Build.{ints, logs, texts, some_texts, int, index_at, target, assign, triplet, forall_over, span}
+use Rattle.array_meaning.specs.Build.{entity, procedure, program, faulted, Comes}
 
 --     program p; integer :: a(3), n; a(4 + n) = mod(1, n); end
 unfoldable pub left_parts_behind_right : Program

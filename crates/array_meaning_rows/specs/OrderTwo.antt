@@ -5,8 +5,12 @@ use Rattle.f95_unit.specs.declared.operation.BinaryOp.TheVariants as binary
 use Rattle.f95_unit.specs.declared.operation.Elemental.TheVariants as elemental
 use Rattle.f95_unit.specs.declared.unit.DeclaredType.TheVariants as declared
 use Rattle.f95_unit.specs.declared.unit.Role.TheVariants as role
-use Rattle.f95_unit.specs.Plain.{typed, Named, Binary, Constructor, Elementwise, at, Whole, Subscripted, no_subscript, subscript, One, Vector, SubscriptTriplet, Absent, Given, AllOf, no_item, value, no_argument, argument, masked, no_masked, assigning, narrowed, no_other, Assigns, Masks, ForAll, no_stmt, stmt, Scalars, Explicit, Program}
-use Rattle.array_meaning.specs.Build.{ints, logs, int, target, assign, triplet, forall_over, span, entity, procedure, program, faulted, Comes}
+use Rattle.f95_unit.specs.Plain.{typed, Named, Binary, Constructor, Elementwise, at, Whole, Subscripted, no_subscript, subscript}
+use Rattle.f95_unit.specs.Plain.{One, Vector, SubscriptTriplet, Absent, Given, AllOf, no_item, value, no_argument, argument, masked}
+use Rattle.f95_unit.specs.Plain.{no_masked, assigning, narrowed, no_other, Assigns, Masks, ForAll, no_stmt, stmt, Scalars, Explicit}
+use Rattle.f95_unit.specs.Plain.{Program}
+use Rattle.array_meaning.specs.Build.{ints, logs, int, target, assign, triplet, forall_over, span, entity, procedure, program}
+use Rattle.array_meaning.specs.Build.{faulted, Comes}
 
 --     program p; integer :: a(3), n; n = 2; where (a(1:n) == 0) a = 1; end
 unfoldable pub mask_of_another_shape : Program

@@ -6,8 +6,12 @@ use Rattle.f95_unit.specs.declared.operation.Reduction.TheVariants as reduction
 use Rattle.f95_unit.specs.declared.unit.DeclaredType.TheVariants as declared
 use Rattle.f95_unit.specs.declared.unit.Length.TheVariants as long
 use Rattle.f95_unit.specs.declared.unit.Role.TheVariants as role
-use Rattle.f95_unit.specs.Plain.{typed, Named, Binary, Constructor, Reduced, at, Whole, Subscripted, no_subscript, subscript, One, SubscriptTriplet, Absent, Given, AllOf, BytesOf, no_item, value, no_argument, argument, masked, no_masked, assigning, narrowed, no_other, elsewhere, Assigns, Masks, ForAll, Print, Do, no_stmt, stmt, Scalars, Explicit, Program}
-use Rattle.array_meaning.specs.Build.{ints, logs, texts, int, text, index_at, target, assign, triplet, forall_over, span, entity, procedure, program, num, chars, truth, ended, faulted, Comes}
+use Rattle.f95_unit.specs.Plain.{typed, Named, Binary, Constructor, Reduced, at, Whole, Subscripted, no_subscript, subscript, One}
+use Rattle.f95_unit.specs.Plain.{SubscriptTriplet, Absent, Given, AllOf, BytesOf, no_item, value, no_argument, argument, masked}
+use Rattle.f95_unit.specs.Plain.{no_masked, assigning, narrowed, no_other, elsewhere, Assigns, Masks, ForAll, Print, Do, no_stmt}
+use Rattle.f95_unit.specs.Plain.{stmt, Scalars, Explicit, Program}
+use Rattle.array_meaning.specs.Build.{ints, logs, texts, int, text, index_at, target, assign, triplet, forall_over, span, entity}
+use Rattle.array_meaning.specs.Build.{procedure, program, num, chars, truth, ended, faulted, Comes}
 
 --     program p; character(3) :: t; logical :: q; t = 'ab'; q = t == 'ab '; print *, q, t, 'c', t(2:1) // 'd'; end
 unfoldable pub texts_and_truth : Program

@@ -8,7 +8,10 @@ use Rattle.f95_unit.specs.declared.operation.Rearranging.TheVariants as rearrang
 use Rattle.f95_unit.specs.declared.unit.DeclaredType.TheVariants as declared
 use Rattle.f95_unit.specs.declared.unit.Role.TheVariants as role
 use Rattle.f95_unit.specs.declared.unit.Intent.TheVariants as intent
-use Rattle.f95_unit.specs.Plain.{typed, Named, Unary, Binary, Constructor, Asked, Rearranged, at, Whole, Subscripted, no_subscript, subscript, SubscriptTriplet, Absent, Given, AllOf, no_item, value, no_argument, argument, Name, call, Assigns, Calls, Print, Read, If, Do, Return, Stop, no_stmt, stmt, no_branch, branch, Scalars, Explicit, Assumed, Program}
+use Rattle.f95_unit.specs.Plain.{typed, Named, Unary, Binary, Constructor, Asked, Rearranged, at, Whole, Subscripted, no_subscript}
+use Rattle.f95_unit.specs.Plain.{subscript, SubscriptTriplet, Absent, Given, AllOf, no_item, value, no_argument, argument, Name}
+use Rattle.f95_unit.specs.Plain.{call, Assigns, Calls, Print, Read, If, Do, Return, Stop, no_stmt, stmt, no_branch, branch, Scalars}
+use Rattle.f95_unit.specs.Plain.{Explicit, Assumed, Program}
 use Rattle.array_meaning.specs.Build.{ints, logs, int, target, assign, span, entity, procedure, program, num, ended, faulted, Comes}
 
 --     program p; integer :: a(3); a = (/1,2,3/); print *, pack(a, a > 1), reshape(a, (/2,2/), pad=(/0/)), spread(a, 1, 2); end

@@ -1,4 +1,5 @@
-//! Assignments of whole arrays, sections, texts and scalars, and initial values. The sources stand in `specs/AssignmentsThree.antt`.
+//! Assignments of whole arrays, sections, texts and scalars, and initial values. The sources stand in
+//! `specs/AssignmentsThree.antt`.
 
 ghost use Rattle.array_meaning_rows.specs.AssignmentsThree.{TrialOfOne};
 

@@ -1,6 +1,8 @@
 //! Subroutines and functions. The sources stand in `specs/CallsOne.antt`.
 
-ghost use Rattle.array_meaning_rows.specs.CallsOne.{TwoSectionsApart, TwoSectionsOverlap, ElementalReference, ElementalReferenceFaults, ExplicitShapeDummy, ExplicitShapeDiffers, Factorial, ArrayFunctionAndTexts, LowerBoundsAndOut};
+ghost use Rattle.array_meaning_rows.specs.CallsOne.{TwoSectionsApart, TwoSectionsOverlap, ElementalReference};
+ghost use Rattle.array_meaning_rows.specs.CallsOne.{ElementalReferenceFaults, ExplicitShapeDummy, ExplicitShapeDiffers, Factorial};
+ghost use Rattle.array_meaning_rows.specs.CallsOne.{ArrayFunctionAndTexts, LowerBoundsAndOut};
 
 #[tactic(auto, using(crate::proofs::CallsOneRows::two_sections_apart_row, crate::proofs::CallsOneRows::two_sections_overlap_row, crate::proofs::CallsOneRows::elemental_reference_row, crate::proofs::CallsOneRows::elemental_reference_faults_row, crate::proofs::CallsOneRows::explicit_shape_dummy_row, crate::proofs::CallsOneRows::explicit_shape_differs_row, crate::proofs::CallsOneRows::factorial_row, crate::proofs::CallsOneRows::array_function_and_texts_row, crate::proofs::CallsOneRows::lower_bounds_and_out_row))]
 pub fn calls_one_rows()

@@ -1,7 +1,9 @@
 //! Reductions with ties, with masks that are nowhere true, and of no elements; texts of unlike lengths. The sources stand in
 //! `specs/IntrinsicsFive.antt`.
 
-ghost use Rattle.array_meaning_rows.specs.IntrinsicsFive.{PlacesWithTies, PlacesWhereNothingCounts, PlaceCountsFromOne, SumsAlongNothing, MasksAlongADimension, ProductsOfNothing, NestedImpliedDos, PaddedComparison, TextsCutAndPadded};
+ghost use Rattle.array_meaning_rows.specs.IntrinsicsFive.{PlacesWithTies, PlacesWhereNothingCounts, PlaceCountsFromOne};
+ghost use Rattle.array_meaning_rows.specs.IntrinsicsFive.{SumsAlongNothing, MasksAlongADimension, ProductsOfNothing};
+ghost use Rattle.array_meaning_rows.specs.IntrinsicsFive.{NestedImpliedDos, PaddedComparison, TextsCutAndPadded};
 
 #[tactic(auto, using(crate::proofs::IntrinsicsFiveRows::places_with_ties_row, crate::proofs::IntrinsicsFiveRows::places_where_nothing_counts_row, crate::proofs::IntrinsicsFiveRows::place_counts_from_one_row, crate::proofs::IntrinsicsFiveRows::sums_along_nothing_row, crate::proofs::IntrinsicsFiveRows::masks_along_a_dimension_row, crate::proofs::IntrinsicsFiveRows::products_of_nothing_row, crate::proofs::IntrinsicsFiveRows::nested_implied_dos_row, crate::proofs::IntrinsicsFiveRows::padded_comparison_row, crate::proofs::IntrinsicsFiveRows::texts_cut_and_padded_row))]
 pub fn intrinsics_five_rows()

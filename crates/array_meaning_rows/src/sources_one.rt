@@ -1,6 +1,8 @@
 //! Small whole sources. The sources stand in `specs/SourcesOne.antt`.
 
-ghost use Rattle.array_meaning_rows.specs.SourcesOne.{TextsAndTruth, StepsOfFour, SectionPastTheEnd, SectionTooLong, SectionWithoutStride, WhereInWhere, ForallReverses, ForallInverts, MatrixAndVector};
+ghost use Rattle.array_meaning_rows.specs.SourcesOne.{TextsAndTruth, StepsOfFour, SectionPastTheEnd, SectionTooLong};
+ghost use Rattle.array_meaning_rows.specs.SourcesOne.{SectionWithoutStride, WhereInWhere, ForallReverses, ForallInverts};
+ghost use Rattle.array_meaning_rows.specs.SourcesOne.{MatrixAndVector};
 
 #[tactic(auto, using(crate::proofs::SourcesOneRows::texts_and_truth_row, crate::proofs::SourcesOneRows::steps_of_four_row, crate::proofs::SourcesOneRows::section_past_the_end_row, crate::proofs::SourcesOneRows::section_too_long_row, crate::proofs::SourcesOneRows::section_without_stride_row, crate::proofs::SourcesOneRows::where_in_where_row, crate::proofs::SourcesOneRows::forall_reverses_row, crate::proofs::SourcesOneRows::forall_inverts_row, crate::proofs::SourcesOneRows::matrix_and_vector_row))]
 pub fn sources_one_rows()

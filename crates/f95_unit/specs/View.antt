@@ -2,7 +2,8 @@
 use Rattle.std.specs.Prelude.{ℕ, List, [], ◌∷◌, map, option_map}
 use Rattle.a95_base.specs.declared.source.Line.{Line}
 use Rattle.f95_unit.specs.Plain as plain
-use Rattle.f95_unit.specs.declared.expr.Access.TheOpen.{Access-F, Bound-F, Item-F, Node-F, Part-F, Subject-F, Subscript-F, Argument-F, Call-F, Designator-F, Expr-F}
+use Rattle.f95_unit.specs.declared.expr.Access.TheOpen.{Access-F, Bound-F, Item-F, Node-F, Part-F, Subject-F, Subscript-F}
+use Rattle.f95_unit.specs.declared.expr.Access.TheOpen.{Argument-F, Call-F, Designator-F, Expr-F}
 use Rattle.f95_unit.specs.declared.expr.Access.TheFolds.{fold-Bound, fold-Call, fold-Designator, fold-Expr}
 use Rattle.f95_unit.specs.declared.expr.Bound.{Bound}
 use Rattle.f95_unit.specs.declared.expr.Call.{Call}
@@ -40,7 +41,8 @@ AddArgument = plain.Arguments → plain.Arguments
 -- a layer of the tree whose parts are seen
 abbrev pub Seen : (Type 0 → Type 0 → Type 0 → Type 0 → Type 0 → Type 0 → Type 0 → Type 0 → Type 0 → Type 0 → Type 0 → Type 0)
     → Type 0
-Seen F = F plain.Access plain.Bound AddItem plain.Node plain.Part plain.Subject AddSubscript AddArgument plain.Call plain.Designator plain.Expr
+Seen F = F plain.Access plain.Bound AddItem plain.Node plain.Part plain.Subject AddSubscript AddArgument plain.Call plain.Designator
+    plain.Expr
 
 abbrev pub joined_items : List AddItem → plain.Items
 joined_items [] = plain.no_item
@@ -108,19 +110,23 @@ abbrev pub expr_at : Seen Expr-F → plain.Expr
 expr_at e = plain.typed e.facts e.node
 
 abbrev pub expr_of : Expr → plain.Expr
-expr_of = fold-Expr plain.Access plain.Bound AddItem plain.Node plain.Part plain.Subject AddSubscript AddArgument plain.Call plain.Designator plain.Expr
+expr_of = fold-Expr plain.Access plain.Bound AddItem plain.Node plain.Part plain.Subject AddSubscript AddArgument plain.Call
+    plain.Designator plain.Expr
     access_at bound_at item_at node_at part_at subject_at subscript_at argument_at call_at designator_at expr_at
 
 abbrev pub bound_of : Bound → plain.Bound
-bound_of = fold-Bound plain.Access plain.Bound AddItem plain.Node plain.Part plain.Subject AddSubscript AddArgument plain.Call plain.Designator plain.Expr
+bound_of = fold-Bound plain.Access plain.Bound AddItem plain.Node plain.Part plain.Subject AddSubscript AddArgument plain.Call
+    plain.Designator plain.Expr
     access_at bound_at item_at node_at part_at subject_at subscript_at argument_at call_at designator_at expr_at
 
 abbrev pub call_of : Call → plain.Call
-call_of = fold-Call plain.Access plain.Bound AddItem plain.Node plain.Part plain.Subject AddSubscript AddArgument plain.Call plain.Designator plain.Expr
+call_of = fold-Call plain.Access plain.Bound AddItem plain.Node plain.Part plain.Subject AddSubscript AddArgument plain.Call
+    plain.Designator plain.Expr
     access_at bound_at item_at node_at part_at subject_at subscript_at argument_at call_at designator_at expr_at
 
 abbrev pub designator_of : Designator → plain.Designator
-designator_of = fold-Designator plain.Access plain.Bound AddItem plain.Node plain.Part plain.Subject AddSubscript AddArgument plain.Call plain.Designator plain.Expr
+designator_of = fold-Designator plain.Access plain.Bound AddItem plain.Node plain.Part plain.Subject AddSubscript AddArgument
+    plain.Call plain.Designator plain.Expr
     access_at bound_at item_at node_at part_at subject_at subscript_at argument_at call_at designator_at expr_at
 
 -- ---- assignments
@@ -165,7 +171,14 @@ abbrev pub triplet_of : Triplet → plain.Triplet
 triplet_of t = record { first = expr_of t.first; last = expr_of t.last; stride = bound_of t.stride }
 
 abbrev pub forall_of : Forall → plain.Forall
-forall_of f = record { line = line_of f.line; triplets = map triplet_of f.triplets; mask = option_map expr_of f.mask; body = map assign_of f.body }
+forall_of f =
+    record {
+      line = line_of f.line;
+      triplets = map triplet_of f.triplets;
+      mask = option_map expr_of f.mask;
+      body =
+          map assign_of f.body;
+    }
 
 -- ---- statements
 
@@ -232,7 +245,8 @@ bounds_of (bounds.Assumed lowers) = plain.Assumed (map bound_of lowers)
 bounds_of (bounds.Deferred rank) = plain.Deferred rank
 
 abbrev pub entity_of : Entity → plain.Entity
-entity_of e = record { line = line_of e.line; of = e.of; bounds = bounds_of e.bounds; role = e.role; initial = option_map expr_of e.initial }
+entity_of e =
+    record { line = line_of e.line; of = e.of; bounds = bounds_of e.bounds; role = e.role; initial = option_map expr_of e.initial }
 
 abbrev pub procedure_of : Procedure → plain.Procedure
 procedure_of p = record {

@@ -23,7 +23,8 @@ pub record Read (bytes : List ℕ) (unit : Unit) : Type 0 where
   pub typed : IsTyped unit
   pub size : IsWithin unit bytes
 
-pub compiles : (bytes : List ℕ) (unit : Unit) (left : List Piece) (program : List Function) → Read bytes unit → left ≡ pieces_of unit → program ≡ functions_of left → Compiles bytes program
+pub compiles : (bytes : List ℕ) (unit : Unit) (left : List Piece) (program : List Function) → Read bytes unit →
+    left ≡ pieces_of unit → program ≡ functions_of left → Compiles bytes program
 compiles bytes unit left program read e f =
     subst (λ (p : List Function). Compiles bytes p) (sym (f ∙ ap functions_of e ∙ pieces_are unit))
     (record { unit = unit; reads = read.reads; follows = follows_it unit read.typed (length bytes) read.size })
@@ -38,18 +39,30 @@ builds bytes unit read = record {
 text_is : (unit : Unit) (left : List Piece) → left ≡ pieces_of unit → text_of left ≡ text_of_program (program_of unit)
 text_is unit left e = ap text_of e ∙ ap text_of_program (pieces_are unit)
 
-pub writes_text : (told : Option (List ℕ)) (bytes : List ℕ) (unit : Unit) (left : List Piece) (out out' : Stream) → IsTold told bytes → Read bytes unit → left ≡ pieces_of unit →
+pub writes_text : (told : Option (List ℕ)) (bytes : List ℕ) (unit : Unit) (left : List Piece) (out out' : Stream) →
+    IsTold told bytes → Read bytes unit → left ≡ pieces_of unit →
     Appends out.bytes out'.bytes (text_of left) → Told told (WritesText out out')
 writes_text told bytes unit left out out' is read e appended = record {
   bytes = bytes;
   is = is;
-  holds = record { text = text_of_program (program_of unit); builds = builds bytes unit read; appended = subst (Appends out.bytes out'.bytes) (text_is unit left e) appended };
+  holds = record {
+    text = text_of_program (program_of unit);
+    builds = builds bytes unit read;
+    appended =
+        subst (Appends out.bytes out'.bytes) (text_is unit left e) appended;
+  };
 }
 
-pub writes_prefix : (told : Option (List ℕ)) (bytes : List ℕ) (unit : Unit) (left : List Piece) (out out' : Stream) → IsTold told bytes → Read bytes unit → left ≡ pieces_of unit →
+pub writes_prefix : (told : Option (List ℕ)) (bytes : List ℕ) (unit : Unit) (left : List Piece) (out out' : Stream) →
+    IsTold told bytes → Read bytes unit → left ≡ pieces_of unit →
     AppendsPrefix out.bytes out'.bytes (text_of left) → Told told (WritesPrefix out out')
 writes_prefix told bytes unit left out out' is read e appended = record {
   bytes = bytes;
   is = is;
-  holds = record { text = text_of_program (program_of unit); builds = builds bytes unit read; appended = subst (AppendsPrefix out.bytes out'.bytes) (text_is unit left e) appended };
+  holds = record {
+    text = text_of_program (program_of unit);
+    builds = builds bytes unit read;
+    appended =
+        subst (AppendsPrefix out.bytes out'.bytes) (text_is unit left e) appended;
+  };
 }

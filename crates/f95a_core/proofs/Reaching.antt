@@ -18,23 +18,33 @@ pub record Good (functions : List Function) (final : List ℕ) (cost : ℕ) (wri
 
 module _ (functions : List Function) (final : List ℕ) where
   -- the same number of turns, written in another way
-  pub turns_are : (start : Configuration) (limit turns other : ℕ) → turns ≡ other → Meets functions start (written_within limit turns final) → Meets functions start (written_within limit other final)
+  pub turns_are : (start : Configuration) (limit turns other : ℕ) → turns ≡ other →
+      Meets functions start (written_within limit turns final) → Meets functions start (written_within limit other final)
   turns_are start limit turns other e m = subst (λ (n : ℕ). Meets functions start (written_within limit n final)) e m
 
-  pub ended : (written : List ℕ) (s : State) → step functions s ≡ Ends (Comes Ended) → written ≡ final → Good functions final 0 written s
+  pub ended : (written : List ℕ) (s : State) → step functions s ≡ Ends (Comes Ended) → written ≡ final →
+      Good functions final 0 written s
   ended written s e w = record {
-    go = λ turns limit. laws.ends e (ap (λ (o : List ℕ). Some (record { written = o; outcome = Finished (Comes Ended) })) (sym w)) (omega arith);
+    go = λ turns limit. laws.ends e (ap (λ (o : List ℕ). Some (record { written = o; outcome = Finished (Comes Ended) })) (sym w))
+        (omega arith);
   }
 
   -- more turns are allowed
-  pub cheaper : (cost most : ℕ) (written : List ℕ) (s : State) → cost ≤ most → Good functions final cost written s → Good functions final most written s
+  pub cheaper : (cost most : ℕ) (written : List ℕ) (s : State) → cost ≤ most → Good functions final cost written s →
+      Good functions final most written s
   cheaper cost most written s h g = record {
-    go = λ turns limit. let f : FinishesAt functions (configuration turns written s) (turns + cost) final (Comes Ended) = (g.go turns limit).by in
-        record { by = record { last = f.last; leads = f.leads; within = omega (arith, f.within, h); output = f.output; ends = f.ends } };
+    go = λ turns limit. let f : FinishesAt functions (configuration turns written s) (turns + cost) final (Comes Ended) =
+        (g.go turns limit).by in
+        record {
+          by =
+              record { last = f.last; leads = f.leads; within = omega (arith, f.within, h); output = f.output; ends = f.ends };
+        };
   }
 
-  pub silent : (cost : ℕ) (written : List ℕ) (s s' : State) → step functions s ≡ Goes false [] s' → Good functions final cost written s' → Good functions final cost written s
+  pub silent : (cost : ℕ) (written : List ℕ) (s s' : State) → step functions s ≡ Goes false [] s' →
+      Good functions final cost written s' → Good functions final cost written s
   silent cost written s s' e g = record { go = λ turns limit. laws.silent e (g.go turns limit) }
 
-  pub writes : (cost : ℕ) (written bytes : List ℕ) (s s' : State) → step functions s ≡ Goes false bytes s' → Good functions final cost (written ++ bytes) s' → Good functions final cost written s
+  pub writes : (cost : ℕ) (written bytes : List ℕ) (s s' : State) → step functions s ≡ Goes false bytes s' →
+      Good functions final cost (written ++ bytes) s' → Good functions final cost written s
   writes cost written bytes s s' e g = record { go = λ turns limit. laws.writes e (g.go turns limit) }

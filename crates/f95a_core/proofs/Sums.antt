@@ -1,5 +1,6 @@
 -- The lines of a right side leave its element in the atom that is stored.
-use Rattle.std.proofs.Common.{◌≡◌, ◌≢◌, ℕ, ◌<◌, ◌≤◌, Bool, true, false, List, [], ◌∷◌, ◌++◌, Option, Some, Ok, Err, refl, ap, ◌∙◌, sym, subst, arith, ℤ, pos, length, nat_lt}
+use Rattle.std.proofs.Common.{◌≡◌, ◌≢◌, ℕ, ◌<◌, ◌≤◌, Bool, true, false, List, [], ◌∷◌, ◌++◌, Option, Some, Ok, Err, refl, ap, ◌∙◌}
+use Rattle.std.proofs.Common.{sym, subst, arith, ℤ, pos, length, nat_lt}
 use Rattle.std.specs.Prelude.{if◌then◌else◌, fold, ◌+ℤ◌, ◌-ℤ◌, ◌*ℤ◌}
 use Rattle.std.specs.Int.{w64, int_wrap}
 use Rattle.std.proofs.lemmas.Bool.Decides.{nat_tests}
@@ -27,7 +28,8 @@ use Rattle.loop_tree.specs.Lines.{flats}
 use Rattle.loop_tree.specs.State.{Brace, Cells, Ints, Block, Goes, with_at, cells_numbered, cells_or_stuck}
 use Rattle.loop_tree.specs.Values.{number_at, block_at, atom_in, and_then, ints_at, ints_of, int_cell}
 use Rattle.loop_tree.specs.Machine.{step}
-use Rattle.f95a_core.specs.Lowered.{set_row, load, factor_atom, times, product_code, product_atom, term_code, term_atom, sign, plus, addends_code, addends_atom, sum_code, sum_atom, is_factor, value_code, value_atom}
+use Rattle.f95a_core.specs.Lowered.{set_row, load, factor_atom, times, product_code, product_atom, term_code, term_atom, sign, plus}
+use Rattle.f95a_core.specs.Lowered.{addends_code, addends_atom, sum_code, sum_atom, is_factor, value_code, value_atom}
 use Rattle.loop_laws.proofs.Braces.{first_row, split}
 use Rattle.f95a_core.proofs.Reaching.{Good, silent}
 use Rattle.f95a_core.proofs.Rows.{Vars, at, step_wrap, step_multiply, step_add, step_subtract, step_cell}
@@ -94,7 +96,8 @@ pub record Holds (arrays : List (List ℤ)) (blocks : List Block) (references : 
   pub fewer : length arrays ≤ made
 
 -- the integers of the block of a reference
-pub ints_there : (blocks : List Block) (references : List (Option ℕ)) (b n : ℕ) (cells : List ℤ) → block_at references b ≡ Some n → cells_numbered blocks n ≡ Some (Ints cells)
+pub ints_there : (blocks : List Block) (references : List (Option ℕ)) (b n : ℕ) (cells : List ℤ) → block_at references b ≡ Some n →
+    cells_numbered blocks n ≡ Some (Ints cells)
     → ints_at blocks (block_at references b) ≡ Ok cells
 ints_there blocks references b n cells named there =
     ap (λ (r : Option ℕ). ints_at blocks r) named ∙ ap (λ (o : Option Cells). and_then (cells_or_stuck o) ints_of) there
@@ -103,18 +106,24 @@ ints_there blocks references b n cells named there =
 pub cell_there : (cells : List ℤ) (z : ℤ) (i : ℕ) → z ≡ pos i → i < length cells → int_cell cells z ≡ Ok (number_at cells i)
 cell_there cells z i e h =
     let within : nat_lt i (length cells) ≡ true = grind (arith, nat_tests) in
-    ap (int_cell cells) e ∙ ap (λ (t : Bool). and_then (if t then Ok i else Err stuck.OutsideBlock) (λ p. Ok (number_at cells p))) within
+    ap (int_cell cells) e ∙ ap (λ (t : Bool). and_then (if t then Ok i else Err stuck.OutsideBlock) (λ p. Ok (number_at cells p)))
+    within
 
 module _ (functions : List Function) (final written : List ℕ) (cost : ℕ) where
   -- one row in front
   pub row_goes : (v w : Vars) (n : ℕ) (value : IntValue) (more : List Stmt) (rest : List CodeLine) (braces : List Brace)
-      → step functions (at v (code.Row (row.Int n value) ∷ (flats more ++ rest)) braces) ≡ Goes false [] (at w (flats more ++ rest) braces)
-      → Good functions final cost written (at w (flats more ++ rest) braces) → Good functions final cost written (at v (flats (set_row n value ∷ more) ++ rest) braces)
+      → step functions (at v (code.Row (row.Int n value) ∷ (flats more ++ rest)) braces)
+      ≡ Goes false [] (at w (flats more ++ rest) braces)
+      → Good functions final cost written (at w (flats more ++ rest) braces) →
+      Good functions final cost written (at v (flats (set_row n value ∷ more) ++ rest) braces)
   row_goes v w n value more rest braces e g =
-      subst (λ (ls : List CodeLine). Good functions final cost written (at v ls braces)) (sym (first_row (row.Int n value) more rest))
-      (silent functions final cost written (at v (code.Row (row.Int n value) ∷ (flats more ++ rest)) braces) (at w (flats more ++ rest) braces) e g)
+      subst (λ (ls : List CodeLine). Good functions final cost written (at v ls braces))
+      (sym (first_row (row.Int n value) more rest))
+      (silent functions final cost written (at v (code.Row (row.Int n value) ∷ (flats more ++ rest)) braces)
+      (at w (flats more ++ rest) braces) e g)
 
-  module _ (arrays : List (List ℤ)) (i : ℕ) (v : Vars) (holds : Holds arrays v.blocks v.references v.made) (is : number_at v.indices 1 ≡ pos i) (braces : List Brace) where
+  module _ (arrays : List (List ℤ)) (i : ℕ) (v : Vars) (holds : Holds arrays v.blocks v.references v.made)
+      (is : number_at v.indices 1 ≡ pos i) (braces : List Brace) where
     abbrev with_ints : List ℤ → Vars
     with_ints ints = record v { ints = ints }
 
@@ -152,12 +161,14 @@ module _ (functions : List Function) (final written : List ℕ) (cost : ℕ) whe
     steady_factor n m h k (factor.Number z) = record { same = λ before after kept. refl }
     steady_factor n m h k (factor.Array p) = steady_int n m h k
 
-    steady_product : (n m : ℕ) → n ≢ m → 2 ≢ m → (left : Atom) → Steady n left → (fs : List Factor) → Steady n (product_atom m left fs)
+    steady_product : (n m : ℕ) → n ≢ m → 2 ≢ m → (left : Atom) → Steady n left → (fs : List Factor) →
+        Steady n (product_atom m left fs)
     steady_product n m h k left st [] = st
     steady_product n m h k left st (f ∷ fs) = steady_product n m h k (atom.Int m) (steady_int n m h k) fs
 
     load_goes : (f : Factor) → FactorHas arrays i f → (n : ℕ) (ints : List ℤ) (more : List Stmt) (rest : List CodeLine)
-        → ((after : List ℤ) → value_in after (factor_atom n f) ≡ factor_at arrays i f → Keeps n ints after → Goes_on after (flats more ++ rest))
+        → ((after : List ℤ) → value_in after (factor_atom n f) ≡ factor_at arrays i f → Keeps n ints after →
+        Goes_on after (flats more ++ rest))
         → Goes_on ints (flats (load n f ++ more) ++ rest)
     load_goes (factor.Number z) has n ints more rest go = go ints refl (keeps_all n ints)
     load_goes (factor.Array p) has n ints more rest go =
@@ -171,38 +182,49 @@ module _ (functions : List Function) (final written : List ℕ) (cost : ℕ) whe
 
     -- an operation on two atoms
     operation_goes : (n : ℕ) (left : Atom) (op : Operator) (right : Atom) (g : ℤ → ℤ → ℤ)
-        → ((ints : List ℤ) (rest : List CodeLine) → step functions (at (with_ints ints) (code.Row (row.Int n (int.Operation left op right)) ∷ rest) braces)
-        ≡ Goes false [] (at (with_ints (with_at (pos 0) ints n (int_wrap w64 (g (value_in ints left) (value_in ints right))))) rest braces))
+        → ((ints : List ℤ) (rest : List CodeLine) → step functions
+        (at (with_ints ints) (code.Row (row.Int n (int.Operation left op right)) ∷ rest) braces)
+        ≡ Goes false []
+        (at (with_ints (with_at (pos 0) ints n (int_wrap w64 (g (value_in ints left) (value_in ints right))))) rest braces))
         → (ints : List ℤ) (x y : ℤ) → value_in ints left ≡ x → value_in ints right ≡ y → (rest : List CodeLine)
         → ((after : List ℤ) → number_at after n ≡ int_wrap w64 (g x y) → Keeps n ints after → Goes_on after rest)
         → Goes_on ints (flats (set_row n (int.Operation left op right) ∷ []) ++ rest)
     operation_goes n left op right g one ints x y first second rest go =
         let z = int_wrap w64 (g (value_in ints left) (value_in ints right)) in
-        row_goes (with_ints ints) (with_ints (with_at (pos 0) ints n z)) n (int.Operation left op right) [] rest braces (one ints rest)
-        (go (with_at (pos 0) ints n z) (with_at_same (pos 0) ints n z ∙ ap (λ k. int_wrap w64 (g k (value_in ints right))) first ∙ ap (λ k. int_wrap w64 (g x k)) second)
+        row_goes (with_ints ints) (with_ints (with_at (pos 0) ints n z)) n (int.Operation left op right) [] rest braces
+        (one ints rest)
+        (go (with_at (pos 0) ints n z)
+        (with_at_same (pos 0) ints n z ∙ ap (λ k. int_wrap w64 (g k (value_in ints right))) first
+        ∙ ap (λ k. int_wrap w64 (g x k)) second)
         (keeps_set n ints z))
 
     -- ---- terms, in i0 or i1
 
     module _ (n : ℕ) (apart : 2 ≢ n) where
-      times_goes : (left : Atom) → Steady 2 left → (f : Factor) → FactorHas arrays i f → (x : ℤ) (ints : List ℤ) → value_in ints left ≡ x → (rest : List CodeLine)
-          → ((after : List ℤ) → number_at after n ≡ int_wrap w64 (x *ℤ factor_at arrays i f) → Keeps n ints after → Goes_on after rest)
+      times_goes : (left : Atom) → Steady 2 left → (f : Factor) → FactorHas arrays i f → (x : ℤ) (ints : List ℤ) →
+          value_in ints left ≡ x → (rest : List CodeLine)
+          → ((after : List ℤ) → number_at after n ≡ int_wrap w64 (x *ℤ factor_at arrays i f) → Keeps n ints after →
+          Goes_on after rest)
           → Goes_on ints (flats (times n left f) ++ rest)
       times_goes left steady f has x ints first rest go =
           let right = factor_atom 2 f in
           load_goes f has 2 ints (set_row n (int.Operation left operator.Multiply right) ∷ []) rest (λ mid second loaded.
-          operation_goes n left operator.Multiply right (λ p q. p *ℤ q) (λ ints' behind. step_multiply functions (with_ints ints') behind braces n left right)
+          operation_goes n left operator.Multiply right (λ p q. p *ℤ q)
+          (λ ints' behind. step_multiply functions (with_ints ints') behind braces n left right)
           mid x (factor_at arrays i f) (steady.same ints mid loaded ∙ first) second rest (λ after value kept.
           go after value (keeps_more n ints mid after (keeps_second n ints mid loaded) kept)))
 
-      product_goes : (fs : List Factor) → Every (FactorHas arrays i) fs → (left : Atom) → Steady 2 left → (x : ℤ) (ints : List ℤ) → value_in ints left ≡ x → (rest : List CodeLine)
-          → ((after : List ℤ) → value_in after (product_atom n left fs) ≡ wide_term_from arrays i x fs → Keeps n ints after → Goes_on after rest)
+      product_goes : (fs : List Factor) → Every (FactorHas arrays i) fs → (left : Atom) → Steady 2 left → (x : ℤ) (ints : List ℤ) →
+          value_in ints left ≡ x → (rest : List CodeLine)
+          → ((after : List ℤ) → value_in after (product_atom n left fs) ≡ wide_term_from arrays i x fs → Keeps n ints after →
+          Goes_on after rest)
           → Goes_on ints (flats (product_code n left fs) ++ rest)
       product_goes [] has left steady x ints first rest go = go ints first (keeps_all n ints)
       product_goes (f ∷ fs) has left steady x ints first rest go =
           subst (λ (ls : List CodeLine). Goes_on ints ls) (sym (split (times n left f) (product_code n (atom.Int n) fs) rest))
           (times_goes left steady f has.0 x ints first (flats (product_code n (atom.Int n) fs) ++ rest) (λ mid now kept.
-          product_goes fs has.1 (atom.Int n) (steady_int 2 n apart apart) (int_wrap w64 (x *ℤ factor_at arrays i f)) mid now rest (λ after last more.
+          product_goes fs has.1 (atom.Int n) (steady_int 2 n apart apart) (int_wrap w64 (x *ℤ factor_at arrays i f)) mid now rest
+          (λ after last more.
           go after last (keeps_more n ints mid after kept more))))
 
       term_goes : (t : Term) → TermHas arrays i t → (ints : List ℤ) (rest : List CodeLine)
@@ -210,7 +232,8 @@ module _ (functions : List Function) (final written : List ℕ) (cost : ℕ) whe
           → Goes_on ints (flats (term_code n t) ++ rest)
       term_goes t has ints rest go =
           load_goes t.first has.first n ints (product_code n (factor_atom n t.first) t.rest) rest (λ mid loaded kept.
-          product_goes t.rest has.rest (factor_atom n t.first) (steady_factor 2 n apart apart t.first) (factor_at arrays i t.first) mid loaded rest (λ after last more.
+          product_goes t.rest has.rest (factor_atom n t.first) (steady_factor 2 n apart apart t.first) (factor_at arrays i t.first)
+          mid loaded rest (λ after last more.
           go after last (keeps_more n ints mid after kept more)))
 
     -- ---- sums, in i0
@@ -224,8 +247,10 @@ module _ (functions : List Function) (final written : List ℕ) (cost : ℕ) whe
     two_not_one : ◌≢◌ {A = ℕ} 2 1
     two_not_one = omega arith
 
-    plus_goes : (left : Atom) → Steady 1 left → (more : Addend) → TermHas arrays i more.term → (x : ℤ) (ints : List ℤ) → value_in ints left ≡ x → (rest : List CodeLine)
-        → ((after : List ℤ) → number_at after 0 ≡ int_wrap w64 (either_way more.minus x (wide_term_at arrays i more.term)) → Goes_on after rest)
+    plus_goes : (left : Atom) → Steady 1 left → (more : Addend) → TermHas arrays i more.term → (x : ℤ) (ints : List ℤ) →
+        value_in ints left ≡ x → (rest : List CodeLine)
+        → ((after : List ℤ) → number_at after 0 ≡ int_wrap w64 (either_way more.minus x (wide_term_at arrays i more.term)) →
+        Goes_on after rest)
         → Goes_on ints (flats (plus left more) ++ rest)
     plus_goes left steady more has x ints first rest go =
         let right = term_atom 1 more.term in
@@ -234,31 +259,38 @@ module _ (functions : List Function) (final written : List ℕ) (cost : ℕ) whe
         (term_goes 1 two_not_one more.term has ints (flats last ++ rest) (λ mid second kept.
         by more.minus mid (steady.same ints mid kept ∙ first) second (λ after e. go after e)))
       where
-        by : (minus : Bool) (mid : List ℤ) → value_in mid left ≡ x → value_in mid (term_atom 1 more.term) ≡ wide_term_at arrays i more.term
-            → ((after : List ℤ) → number_at after 0 ≡ int_wrap w64 (either_way minus x (wide_term_at arrays i more.term)) → Goes_on after rest)
+        by : (minus : Bool) (mid : List ℤ) → value_in mid left ≡ x → value_in mid (term_atom 1 more.term)
+            ≡ wide_term_at arrays i more.term
+            → ((after : List ℤ) → number_at after 0 ≡ int_wrap w64 (either_way minus x (wide_term_at arrays i more.term)) →
+            Goes_on after rest)
             → Goes_on mid (flats (set_row 0 (int.Operation left (sign minus) (term_atom 1 more.term)) ∷ []) ++ rest)
         by true mid one two go =
-            operation_goes 0 left operator.Subtract (term_atom 1 more.term) (λ p q. p -ℤ q) (λ ints' behind. step_subtract functions (with_ints ints') behind braces 0 left (term_atom 1 more.term))
+            operation_goes 0 left operator.Subtract (term_atom 1 more.term) (λ p q. p -ℤ q)
+            (λ ints' behind. step_subtract functions (with_ints ints') behind braces 0 left (term_atom 1 more.term))
             mid x (wide_term_at arrays i more.term) one two rest (λ after value kept. go after value)
         by false mid one two go =
-            operation_goes 0 left operator.Add (term_atom 1 more.term) (λ p q. p +ℤ q) (λ ints' behind. step_add functions (with_ints ints') behind braces 0 left (term_atom 1 more.term))
+            operation_goes 0 left operator.Add (term_atom 1 more.term) (λ p q. p +ℤ q)
+            (λ ints' behind. step_add functions (with_ints ints') behind braces 0 left (term_atom 1 more.term))
             mid x (wide_term_at arrays i more.term) one two rest (λ after value kept. go after value)
 
-    addends_go : (more : List Addend) → Every (λ (a : Addend). TermHas arrays i a.term) more → (left : Atom) → Steady 1 left → (x : ℤ) (ints : List ℤ) → value_in ints left ≡ x → (rest : List CodeLine)
+    addends_go : (more : List Addend) → Every (λ (a : Addend). TermHas arrays i a.term) more → (left : Atom) → Steady 1 left →
+        (x : ℤ) (ints : List ℤ) → value_in ints left ≡ x → (rest : List CodeLine)
         → ((after : List ℤ) → value_in after (addends_atom left more) ≡ wide_sum_from arrays i x more → Goes_on after rest)
         → Goes_on ints (flats (addends_code left more) ++ rest)
     addends_go [] has left steady x ints first rest go = go ints first
     addends_go (a ∷ more) has left steady x ints first rest go =
         subst (λ (ls : List CodeLine). Goes_on ints ls) (sym (split (plus left a) (addends_code (atom.Int 0) more) rest))
         (plus_goes left steady a has.0 x ints first (flats (addends_code (atom.Int 0) more) ++ rest) (λ mid now.
-        addends_go more has.1 (atom.Int 0) (steady_int 1 0 one_not_zero two_not_zero) (int_wrap w64 (either_way a.minus x (wide_term_at arrays i a.term))) mid now rest go))
+        addends_go more has.1 (atom.Int 0) (steady_int 1 0 one_not_zero two_not_zero)
+        (int_wrap w64 (either_way a.minus x (wide_term_at arrays i a.term))) mid now rest go))
 
     sum_goes : (s : Sum) → SumHas arrays i s → (ints : List ℤ) (rest : List CodeLine)
         → ((after : List ℤ) → value_in after (sum_atom s) ≡ wide_sum_at arrays i s → Goes_on after rest)
         → Goes_on ints (flats (sum_code s) ++ rest)
     sum_goes s has ints rest go =
         let left = term_atom 0 s.first in
-        let steady = steady_product 1 0 one_not_zero two_not_zero (factor_atom 0 s.first.first) (steady_factor 1 0 one_not_zero two_not_zero s.first.first) s.first.rest in
+        let steady = steady_product 1 0 one_not_zero two_not_zero (factor_atom 0 s.first.first)
+        (steady_factor 1 0 one_not_zero two_not_zero s.first.first) s.first.rest in
         subst (λ (ls : List CodeLine). Goes_on ints ls) (sym (split (term_code 0 s.first) (addends_code left s.rest) rest))
         (term_goes 0 two_not_zero s.first has.first ints (flats (addends_code left s.rest) ++ rest) (λ mid value kept.
         addends_go s.rest has.rest left steady (wide_term_at arrays i s.first) mid value rest go))
@@ -273,10 +305,12 @@ module _ (functions : List Function) (final written : List ℕ) (cost : ℕ) whe
         (sum_goes s has ints (flats last ++ rest) (λ mid value. by (is_factor s) mid value go))
       where
         by : (alone : Bool) (mid : List ℤ) → value_in mid (sum_atom s) ≡ wide_sum_at arrays i s
-            → ((after : List ℤ) → value_in after (if alone then sum_atom s else atom.Int 0) ≡ (if alone then wide_sum_at arrays i s else wrapped (wide_sum_at arrays i s)) → Goes_on after rest)
+            → ((after : List ℤ) → value_in after (if alone then sum_atom s else atom.Int 0)
+            ≡ (if alone then wide_sum_at arrays i s else wrapped (wide_sum_at arrays i s)) → Goes_on after rest)
             → Goes_on mid (flats (if alone then [] else set_row 0 (int.Wrap (sum_atom s)) ∷ []) ++ rest)
         by true mid value go = go mid value
         by false mid value go =
             let z = wrapped (value_in mid (sum_atom s)) in
-            row_goes (with_ints mid) (with_ints (with_at (pos 0) mid 0 z)) 0 (int.Wrap (sum_atom s)) [] rest braces (step_wrap functions (with_ints mid) rest braces 0 (sum_atom s))
+            row_goes (with_ints mid) (with_ints (with_at (pos 0) mid 0 z)) 0 (int.Wrap (sum_atom s)) [] rest braces
+            (step_wrap functions (with_ints mid) rest braces 0 (sum_atom s))
             (go (with_at (pos 0) mid 0 z) (with_at_same (pos 0) mid 0 z ∙ ap wrapped value))

@@ -1,5 +1,6 @@
 -- The run of the program of a unit, from its start.
-use Rattle.std.proofs.Common.{◌≡◌, ◌≢◌, ◌⊎◌, inl, inr, ℕ, zero, suc, ◌+◌, ◌<◌, ◌≤◌, ◌^◌, true, List, [], ◌∷◌, ◌++◌, Some, None, refl, ap, ◌∙◌, sym, subst, arith, ℤ, pos, length, nat_le, append-nil, append_assoc, length-append}
+use Rattle.std.proofs.Common.{◌≡◌, ◌≢◌, ◌⊎◌, inl, inr, ℕ, zero, suc, ◌+◌, ◌<◌, ◌≤◌, ◌^◌, true, List, [], ◌∷◌, ◌++◌, Some, None}
+use Rattle.std.proofs.Common.{refl, ap, ◌∙◌, sym, subst, arith, ℤ, pos, length, nat_le, append-nil, append_assoc, length-append}
 use Rattle.std.specs.Prelude.{map, replicate}
 use Rattle.std.specs.List.{list_all}
 use Rattle.std.proofs.lemmas.List.{length-map, get_or_append_left, get_or_past}
@@ -36,7 +37,8 @@ use Rattle.f95a_core.proofs.Statements.{both, Stands, zero_int, statements_cost,
 
 -- one more array, in the block that is made for it
 holds_next : (done : List (List ℤ)) (v : Vars) (n : ℕ) → Holds done v.blocks v.references v.made → v.made ≡ length done
-    → Holds (done ++ replicate n (pos 0) ∷ []) (record { number = v.made; cells = Ints (replicate n (pos 0)) } ∷ v.blocks) (with_at None v.references (length done) (Some v.made)) (v.made + 1)
+    → Holds (done ++ replicate n (pos 0) ∷ []) (record { number = v.made; cells = Ints (replicate n (pos 0)) } ∷ v.blocks)
+    (with_at None v.references (length done) (Some v.made)) (v.made + 1)
 holds_next done v n h e = record {
   cells = λ p here. cells_by p (grind (arith, length-append done (replicate n (pos 0) ∷ [])));
   named = λ p here. named_by p (grind (arith, length-append done (replicate n (pos 0) ∷ [])));
@@ -44,7 +46,8 @@ holds_next done v n h e = record {
 }
   where
     cells_by : (p : ℕ) → (p < length done) ⊎ (p ≡ length done)
-        → cells_numbered (record { number = v.made; cells = Ints (replicate n (pos 0)) } ∷ v.blocks) p ≡ Some (Ints (array_at (done ++ replicate n (pos 0) ∷ []) p))
+        → cells_numbered (record { number = v.made; cells = Ints (replicate n (pos 0)) } ∷ v.blocks) p
+        ≡ Some (Ints (array_at (done ++ replicate n (pos 0) ∷ []) p))
     cells_by p (inl before) =
         let ne : v.made ≢ p = omega arith in
         made_elsewhere v.blocks v.made p (Ints (replicate n (pos 0))) ne ∙ h.cells p before
@@ -52,22 +55,29 @@ holds_next done v n h e = record {
     cells_by p (inr last) =
         ap (λ q. cells_numbered (record { number = v.made; cells = Ints (replicate n (pos 0)) } ∷ v.blocks) q) (last ∙ sym e)
         ∙ made_here v.blocks v.made (Ints (replicate n (pos 0)))
-        ∙ ap (λ (c : List ℤ). Some (Ints c)) (sym (ap (λ q. array_at (done ++ replicate n (pos 0) ∷ []) q) last ∙ get_or-append_seam done (replicate n (pos 0)) [] []))
+        ∙ ap (λ (c : List ℤ). Some (Ints c))
+        (sym (ap (λ q. array_at (done ++ replicate n (pos 0) ∷ []) q) last
+        ∙ get_or-append_seam done (replicate n (pos 0)) [] []))
 
-    named_by : (p : ℕ) → (p < length done) ⊎ (p ≡ length done) → block_at (with_at None v.references (length done) (Some v.made)) p ≡ Some p
+    named_by : (p : ℕ) → (p < length done) ⊎ (p ≡ length done) → block_at (with_at None v.references (length done) (Some v.made)) p
+        ≡ Some p
     named_by p (inl before) =
         let ne : length done ≢ p = omega arith in
         with_at_other None v.references (length done) p (Some v.made) ne ∙ h.named p before
     named_by p (inr last) =
-        ap (λ q. block_at (with_at None v.references (length done) (Some v.made)) q) last ∙ with_at_same None v.references (length done) (Some v.made) ∙ ap Some (e ∙ sym last)
+        ap (λ q. block_at (with_at None v.references (length done) (Some v.made)) q) last
+        ∙ with_at_same None v.references (length done) (Some v.made) ∙ ap Some (e ∙ sym last)
 
 abbrev zeros_of : List Array → List (List ℤ)
 zeros_of decls = map (λ (a : Array). replicate a.extent (pos 0)) decls
 
-module _ (functions : List Function) (final written : List ℕ) (cost : ℕ) (more : List Stmt) (rest : List CodeLine) (braces : List Brace) where
-  declared_go : (decls : List Array) → list_all (λ (a : Array). nat_le a.extent (2 ^ 24)) decls ≡ true → (done : List (List ℤ)) (number : ℕ) → number ≡ length done
+module _ (functions : List Function) (final written : List ℕ) (cost : ℕ) (more : List Stmt) (rest : List CodeLine)
+    (braces : List Brace) where
+  declared_go : (decls : List Array) → list_all (λ (a : Array). nat_le a.extent (2 ^ 24)) decls ≡ true →
+      (done : List (List ℤ)) (number : ℕ) → number ≡ length done
       → (v : Vars) → Holds done v.blocks v.references v.made → v.made ≡ length done → v.pending ≡ []
-      → ((w : Vars) → Holds (done ++ zeros_of decls) w.blocks w.references w.made → w.pending ≡ [] → Good functions final cost written (at w (flats more ++ rest) braces))
+      → ((w : Vars) → Holds (done ++ zeros_of decls) w.blocks w.references w.made → w.pending ≡ [] →
+      Good functions final cost written (at w (flats more ++ rest) braces))
       → Good functions final cost written (at v (flats (declared_code number decls ++ more) ++ rest) braces)
   declared_go [] small done number at_number v holds count clean go =
       go v (subst (λ (arrays : List (List ℤ)). Holds arrays v.blocks v.references v.made) (sym (append-nil done)) holds) clean
@@ -84,14 +94,17 @@ module _ (functions : List Function) (final written : List ℕ) (cost : ℕ) (mo
       let longer : length (done ++ z ∷ []) ≡ length done + 1 = omega (arith, length-append done (z ∷ [])) in
       let later = declared_code (length done + 1) decls ++ more in
       let make = stmt.Row (row.Block (block.New (length done) (atom.Number (pos n)))) in
-      subst (λ k. Good functions final cost written (at v (flats (declared_code k (a ∷ decls) ++ more) ++ rest) braces)) (sym at_number)
+      subst (λ k. Good functions final cost written (at v (flats (declared_code k (a ∷ decls) ++ more) ++ rest) braces))
+      (sym at_number)
       (row_before functions final written cost v u (row.Control (control.At a.line)) (make ∷ later) rest braces
       (step_line functions v (flats (make ∷ later) ++ rest) braces a.line)
       (row_before functions final written cost u x (row.Block (block.New (length done) (atom.Number (pos n)))) later rest braces
       (step_new functions u (flats later ++ rest) braces (length done) n parts.0)
       (declared_go decls parts.1 (done ++ z ∷ []) (length done + 1) (sym longer) x (holds_next done u n holds count)
       (ap (λ k. k + 1) count ∙ sym longer) clean
-      (λ w kept empty. go w (subst (λ (arrays : List (List ℤ)). Holds arrays w.blocks w.references w.made) (append_assoc done (z ∷ []) (zeros_of decls)) kept) empty))))
+      (λ w kept empty. go w
+      (subst (λ (arrays : List (List ℤ)). Holds arrays w.blocks w.references w.made)
+      (append_assoc done (z ∷ []) (zeros_of decls)) kept) empty))))
 
 -- ---- the whole program
 
@@ -121,11 +134,14 @@ abbrev nothing : List ℕ → Vars
 nothing input = record { ints = []; indices = []; references = []; line = 0; blocks = []; made = 0; pending = []; input = input }
 
 -- From the start of the program the run ends, having written what the source writes.
-pub unit_goes : (unit : Unit) → IsTyped unit → (input : List ℕ) → Good (program_of unit) (meaning.output unit) (statements_cost unit.arrays unit.statements) [] (start (program_of unit) input)
+pub unit_goes : (unit : Unit) → IsTyped unit → (input : List ℕ) →
+    Good (program_of unit) (meaning.output unit) (statements_cost unit.arrays unit.statements) [] (start (program_of unit) input)
 unit_goes unit typed input =
     let functions = program_of unit in
     let final = meaning.output unit in
     let cost = statements_cost unit.arrays unit.statements in
-    declared_go functions final [] cost (statements_code unit.arrays unit.statements) (code.Close ∷ []) [] unit.arrays typed.extents [] 0 refl (nothing input)
+    declared_go functions final [] cost (statements_code unit.arrays unit.statements) (code.Close ∷ []) [] unit.arrays typed.extents
+    [] 0 refl (nothing input)
     (record { cells = λ p here. absurd (omega arith); named = λ p here. absurd (omega arith); fewer = omega arith }) refl refl
-    (λ w kept empty. statements_go functions final unit.arrays typed.extents unit.statements typed.statements (meaning.start unit) (start_stands unit.arrays) refl w kept empty)
+    (λ w kept empty. statements_go functions final unit.arrays typed.extents unit.statements typed.statements (meaning.start unit)
+    (start_stands unit.arrays) refl w kept empty)

@@ -28,7 +28,8 @@ pub record NoteUnwritten (came result : Status) (before after : Stream) : Type 0
   pub nothing : Unwritten before after
 
 abbrev pub Noted : Status → Status → Stream → Stream → Type 0
-Noted came result before after = NoteWritten came result before after ⊎ (NoteFailed came result before after ⊎ NoteUnwritten came result before after)
+Noted came result before after = NoteWritten came result before after
+    ⊎ (NoteFailed came result before after ⊎ NoteUnwritten came result before after)
 
 -- a command came to a status of which P holds, and its note was written, unless that failed
 pub record Answers (result : Status) (before after : Stream) (P : Status → Type 0) : Type 0 where

@@ -38,12 +38,15 @@ pub record WritesPrefix (before after : Stream) (bytes : List ℕ) : Type 0 wher
 -- each status of `build NAME`, with its cause, and what was written; every other status is that of another command. Where nothing
 -- was, it is said of the output itself
 abbrev pub BuildComesTo : List ℕ → Files → Files → Stream → Stream → Type 0 → Status → Type 0
-BuildComesTo name files files' out out' same_output status.Done = NoLoadFailed files files' × Told (files.file name) (WritesText out out')
+BuildComesTo name files files' out out' same_output status.Done = NoLoadFailed files files'
+    × Told (files.file name) (WritesText out out')
 BuildComesTo name files files' out out' same_output (status.Refused phase line rule) =
     NoLoadFailed files files' × Told (files.file name) (λ bytes. IsLeastBroken bytes phase line.0 rule.0) × same_output
 BuildComesTo name files files' out out' same_output status.ReadFault = LoadFailed name files files' × same_output
-BuildComesTo name files files' out out' same_output status.WriteFault = NoLoadFailed files files' × Told (files.file name) (WritesPrefix out out') × Rose out.faults out'.faults
-BuildComesTo name files files' out out' same_output status.Memory = NoLoadFailed files files' × (same_output ⊎ Told (files.file name) (WritesPrefix out out'))
+BuildComesTo name files files' out out' same_output status.WriteFault = NoLoadFailed files files'
+    × Told (files.file name) (WritesPrefix out out') × Rose out.faults out'.faults
+BuildComesTo name files files' out out' same_output status.Memory = NoLoadFailed files files'
+    × (same_output ⊎ Told (files.file name) (WritesPrefix out out'))
 BuildComesTo name files files' out out' same_output other = ⊥
 
 -- a source that breaks no rule is built, unless a device or memory fails, and no other is
@@ -51,4 +54,5 @@ abbrev pub BuildsUnbroken : Option (List ℕ) → Status → Type 0
 BuildsUnbroken file result = (bytes : List ℕ) → file ≡ Some bytes → IsUnbroken bytes → (result ≡ status.Done) ⊎ IsFailure result
 
 abbrev pub BuildsNoOther : Option (List ℕ) → Status → Type 0
-BuildsNoOther file result = (bytes : List ℕ) (phase line rule : ℕ) → file ≡ Some bytes → IsBroken bytes phase line rule → result ≢ status.Done
+BuildsNoOther file result = (bytes : List ℕ) (phase line rule : ℕ) → file ≡ Some bytes → IsBroken bytes phase line rule →
+    result ≢ status.Done

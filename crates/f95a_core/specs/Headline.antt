@@ -17,7 +17,8 @@ pub record DoesAsItsSource (source input : List ℕ) (turns : ℕ) (written : Li
   pub reads : Reads source unit
   pub backward : DoesBackward (source_run unit input turns) written outcome
   pub never_stuck : (why : StuckState) → outcome ≡ Finished (Stuck why) → ⊥
-  pub forward : (n : ℕ) → turn_bound (length source) n ≤ turns → HasDone (source_run unit input n).written (source_run unit input n).outcome written outcome
+  pub forward : (n : ℕ) → turn_bound (length source) n ≤ turns →
+      HasDone (source_run unit input n).written (source_run unit input n).outcome written outcome
 
 -- a text of `build` is never refused, and every run of it does as its source
 pub record RunsAsMeant (source text : List ℕ) : Type 0 where

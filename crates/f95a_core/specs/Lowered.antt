@@ -105,11 +105,14 @@ abbrev pub loop : ℕ → List Stmt → Stmt
 loop extent body = stmt.ForUp 1 (atom.Number (pos extent)) body
 
 abbrev pub fill : ℕ → ℕ → ℕ → Sum → Stmt
-fill line extent temporary sum = loop extent (at_line line ∷ (value_code sum ++ (stmt.Row (row.Block (block.StoreInt temporary (atom.Loop 1) (value_atom sum))) ∷ [])))
+fill line extent temporary sum =
+    loop extent
+    (at_line line ∷ (value_code sum ++ (stmt.Row (row.Block (block.StoreInt temporary (atom.Loop 1) (value_atom sum))) ∷ [])))
 
 abbrev pub move : ℕ → ℕ → ℕ → ℕ → Stmt
 move line extent temporary target = loop extent
-    (at_line line ∷ set_row 0 (value.Cell temporary (atom.Loop 1)) ∷ stmt.Row (row.Block (block.StoreInt target (atom.Loop 1) (atom.Int 0))) ∷ [])
+    (at_line line ∷ set_row 0 (value.Cell temporary (atom.Loop 1))
+    ∷ stmt.Row (row.Block (block.StoreInt target (atom.Loop 1) (atom.Int 0))) ∷ [])
 
 -- the temporary is needed no more
 abbrev pub free : ℕ → Stmt
@@ -127,7 +130,8 @@ abbrev pub assignment_code : List Array → ℕ → ℕ → Sum → List Stmt
 assignment_code arrays line target sum =
     let extent = extent_of arrays target in
     let temporary = length arrays in
-    at_line line ∷ stmt.Row (row.Block (block.Temp temporary (atom.Number (pos extent)))) ∷ fill line extent temporary sum ∷ move line extent temporary target ∷ free temporary ∷ []
+    at_line line ∷ stmt.Row (row.Block (block.Temp temporary (atom.Number (pos extent)))) ∷ fill line extent temporary sum
+    ∷ move line extent temporary target ∷ free temporary ∷ []
 
 abbrev pub printing_code : List Array → ℕ → List ℕ → List Stmt
 printing_code arrays line places =

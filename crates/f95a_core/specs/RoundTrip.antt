@@ -22,7 +22,8 @@ Built source other text = ⊥
 -- the run of a text in memory on an input in memory
 abbrev pub Ran : List ℕ → List ℕ → Status → List ℕ → Type 0
 Ran text input status.Done output = Executes (job (Some text) (Some input) default_turns) output (Finished (Comes Ended))
-Ran text input (status.Fault kind line) output = Executes (job (Some text) (Some input) default_turns) output (Finished (Comes (Faulted kind line.0)))
+Ran text input (status.Fault kind line) output = Executes (job (Some text) (Some input) default_turns) output
+    (Finished (Comes (Faulted kind line.0)))
 Ran text input (status.Stuck why) output = Executes (job (Some text) (Some input) default_turns) output (Finished (Stuck why))
 Ran text input status.TurnLimit output = Executes (job (Some text) (Some input) default_turns) output Going
 Ran text input (status.TextRefused line) output = IsRefusedLine text line.0
@@ -33,7 +34,8 @@ Ran text input other output = ⊥
 -- both, one behind the other: no other status comes
 abbrev pub EndsAs : List ℕ → List ℕ → Status → List ℕ → Type 0
 EndsAs source input status.Done output = DoesAsItsSource source input default_turns output (Finished (Comes Ended))
-EndsAs source input (status.Fault kind line) output = DoesAsItsSource source input default_turns output (Finished (Comes (Faulted kind line.0)))
+EndsAs source input (status.Fault kind line) output = DoesAsItsSource source input default_turns output
+    (Finished (Comes (Faulted kind line.0)))
 EndsAs source input status.TurnLimit output = DoesAsItsSource source input default_turns output Going
 EndsAs source input (status.Refused phase line rule) output = IsLeastBroken source phase line.0 rule.0 × (output ≡ [])
 EndsAs source input status.InputTooLong output = (input_limit < length input) × (output ≡ [])

@@ -85,14 +85,16 @@ pub record NoMemory (input input' : Stream) (same_output : Type 0) : Type 0 wher
   pub output : same_output
   pub taken : TakesAtMost (input_limit + 1) input.bytes input'.bytes
 
--- Each status of `run NAME --turns N`, with its cause, and what was written and taken. The order is: the file is loaded, it is read as a
+-- Each status of `run NAME --turns N`, with its cause, and what was written and taken. The order is: the file is loaded, it is read
+-- as a
 -- text, the input is taken, and the program runs. Until then the input, and the output, are as they were: it is said of the objects
 -- themselves. Every other status is that of another command.
 abbrev pub RunComesTo : List ℕ → ℕ → Files → Files → Stream → Stream → Stream → Stream → Type 0 → Type 0 → Status → Type 0
 RunComesTo name turns files files' input input' out out' same_input same_output status.Done =
     NoLoadFailed files files' × WritesRun (job (files.file name) input.bytes turns) (Finished (Comes Ended)) input' out out'
 RunComesTo name turns files files' input input' out out' same_input same_output (status.Fault kind line) =
-    NoLoadFailed files files' × WritesRun (job (files.file name) input.bytes turns) (Finished (Comes (Faulted kind line.0))) input' out out'
+    NoLoadFailed files files' × WritesRun (job (files.file name) input.bytes turns) (Finished (Comes (Faulted kind line.0))) input'
+    out out'
 RunComesTo name turns files files' input input' out out' same_input same_output (status.Stuck why) =
     NoLoadFailed files files' × WritesRun (job (files.file name) input.bytes turns) (Finished (Stuck why)) input' out out'
 RunComesTo name turns files files' input input' out out' same_input same_output status.TurnLimit =
@@ -100,17 +102,21 @@ RunComesTo name turns files files' input input' out out' same_input same_output 
 RunComesTo name turns files files' input input' out out' same_input same_output (status.TextRefused line) =
     NoLoadFailed files files' × Told (files.file name) (λ bytes. IsRefusedLine bytes line.0) × same_input × same_output
 RunComesTo name turns files files' input input' out out' same_input same_output status.InputTooLong =
-    NoLoadFailed files files' × Told (files.file name) IsText × IsTooLong input.bytes × Takes (input_limit + 1) input.bytes input'.bytes × same_output
+    NoLoadFailed files files' × Told (files.file name) IsText × IsTooLong input.bytes
+    × Takes (input_limit + 1) input.bytes input'.bytes × same_output
 RunComesTo name turns files files' input input' out out' same_input same_output status.ReadFault =
     same_output × ((LoadFailed name files files' × same_input) ⊎ InputFailed (files.file name) files files' input input')
 RunComesTo name turns files files' input input' out out' same_input same_output status.WriteFault =
-    NoLoadFailed files files' × Rose out.faults out'.faults × WritesPrefixOfRun (job (files.file name) input.bytes turns) input' out out'
+    NoLoadFailed files files' × Rose out.faults out'.faults × WritesPrefixOfRun (job (files.file name) input.bytes turns) input' out
+    out'
 RunComesTo name turns files files' input input' out out' same_input same_output status.Memory =
-    NoLoadFailed files files' × (NoMemory input input' same_output ⊎ WritesPrefixOfRun (job (files.file name) input.bytes turns) input' out out')
+    NoLoadFailed files files'
+    × (NoMemory input input' same_output ⊎ WritesPrefixOfRun (job (files.file name) input.bytes turns) input' out out')
 RunComesTo name turns files files' input input' out out' same_input same_output other = ⊥
 
 -- a text is run on an input that isn't too long, unless a device or memory fails
 abbrev pub RunsText : Job → Stream → Stream → Status → Type 0
 RunsText job out out' result = (text : List ℕ) (program : List Function) (input written : List ℕ) (outcome : Outcome End) →
-    job.file ≡ Some text → ReadsText text program → job.input ≡ Some input → length input ≤ input_limit → Mach program input job.turns written outcome →
+    job.file ≡ Some text → ReadsText text program → job.input ≡ Some input → length input ≤ input_limit →
+    Mach program input job.turns written outcome →
     ((result ≡ status_of outcome) × Appends out.bytes out'.bytes written) ⊎ IsFailure result

@@ -22,7 +22,8 @@ code_of status.Memory = 10
 -- the line that a status writes as its note, without the line feed
 abbrev pub message : Status → List ℕ
 message status.Done = []
-message (status.Refused phase line rule) = codes "f95a: refused: phase " ++ (decimal phase ++ (codes ", line " ++ (decimal line.0 ++ (codes ", rule P" ++ decimal rule.0))))
+message (status.Refused phase line rule) = codes "f95a: refused: phase "
+    ++ (decimal phase ++ (codes ", line " ++ (decimal line.0 ++ (codes ", rule P" ++ decimal rule.0))))
 message status.Usage = codes "f95a: usage"
 message (status.Fault kind line) = codes "f95a: fault F" ++ (decimal (fault_number kind) ++ (codes " at line " ++ decimal line.0))
 message (status.TextRefused line) = codes "f95a: text refused at line " ++ decimal line.0

@@ -21,7 +21,8 @@ pub enum IntakeFault {
 
 /// All the bytes of an input that has no more than `INPUT_LIMIT`. One byte more is taken at most.
 pub fn take_all<S: Source>(alloc: Global, input: &mut S) -> Result<Vec<u8>, IntakeFault>
-    ensures taken { MatchResult result (λ bytes. TakenAll (S.left input.old) (S.left input.new) bytes.items) (λ fault. IntakeFails fault (S.left input.old) (S.left input.new) (S.faults input.old) (S.faults input.new)) }
+    ensures taken { MatchResult result (λ bytes. TakenAll (S.left input.old) (S.left input.new) bytes.items)
+        (λ fault. IntakeFails fault (S.left input.old) (S.left input.new) (S.faults input.old) (S.faults input.new)) }
     ensures front { TakesAtMost (input_limit + 1) (S.left input.old) (S.left input.new) }
     ensures later { S.faults input.old ≤ S.faults input.new }
 {

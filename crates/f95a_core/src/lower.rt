@@ -85,7 +85,8 @@ fn statement_code(
     arrays: &[Array],
     statement: &Statement,
 ) -> Result<Code, AllocError>
-    ensures { IfOk result (λ code. code ≡ Lowered.body_with (Lowered.action_code arrays.now statement.now.line statement.now.action)) }
+    ensures { IfOk result
+        (λ code. code ≡ Lowered.body_with (Lowered.action_code arrays.now statement.now.line statement.now.action)) }
 {
     match &statement.action {
         Action::Assign { target, value } => {

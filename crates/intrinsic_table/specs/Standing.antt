@@ -1,5 +1,6 @@
 -- Where a keyword stands in a list, or among `a1`, `a2` and so on.
-use Rattle.std.specs.Prelude.{◌≡◌, ◌≢◌, ℕ, ◌<◌, ◌^◌, Bool, false, ◌&&◌, nat_le, List, [], ◌∷◌, ◌++◌, Option, Some, None, slice_get, decimal}
+use Rattle.std.specs.Prelude.{◌≡◌, ◌≢◌, ℕ, ◌<◌, ◌^◌, Bool, false, ◌&&◌, nat_le, List, [], ◌∷◌, ◌++◌, Option, Some, None, slice_get}
+use Rattle.std.specs.Prelude.{decimal}
 use Rattle.intrinsic_table.specs.Table.{Word, Arguments, Takes, Numbered}
 use Rattle.intrinsic_table.specs.Interface.{keyword_in}
 

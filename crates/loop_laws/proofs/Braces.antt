@@ -10,11 +10,15 @@ use Rattle.loop_tree.specs.Lines.{flat, flats}
 use Rattle.loop_tree.specs.State.{Brace, Choice, Upward, Downward, Forever}
 use Rattle.loop_tree.specs.Values.{number_at, holds}
 use Rattle.a95_base.specs.Lists.{rest_of}
-use Rattle.loop_tree.specs.Machine.{step, step_at, do_line, row_line, control_line, break_line, continue_line, if_line, else_line, for_up_line, for_down_line, forever_line, close_line, exits, loop_end, Place, first_exit, skip_choice, quiet, turn}
+use Rattle.loop_tree.specs.Machine.{step, step_at, do_line, row_line, control_line, break_line, continue_line, if_line, else_line}
+use Rattle.loop_tree.specs.Machine.{for_up_line, for_down_line, forever_line, close_line, exits, loop_end, Place, first_exit}
+use Rattle.loop_tree.specs.Machine.{skip_choice, quiet, turn}
 use Rattle.loop_tree.proofs.Balanced.{exits-flats, exits-body, exits-branch, behind-body}
 use Rattle.loop_tree.proofs.Trees.{flat-Row, flat-If, flat-IfElse, flat-ForUp, flat-ForDown, flat-Forever}
 use Rattle.loop_laws.specs.At.{at, value_of, with_index}
-use Rattle.loop_laws.specs.Braces.{Split, FirstRow, FirstIf, FirstIfElse, FirstUp, FirstDown, FirstForever, IfStep, IfElseStep, ElseStep, ChoiceEndStep, UpStep, UpEndStep, DownStep, DownEndStep, ForeverStep, ForeverEndStep, ClosesAt, BreakStep, ContinueStep, is_loop, ClosingLaws}
+use Rattle.loop_laws.specs.Braces.{Split, FirstRow, FirstIf, FirstIfElse, FirstUp, FirstDown, FirstForever, IfStep, IfElseStep}
+use Rattle.loop_laws.specs.Braces.{ElseStep, ChoiceEndStep, UpStep, UpEndStep, DownStep, DownEndStep, ForeverStep, ForeverEndStep}
+use Rattle.loop_laws.specs.Braces.{ClosesAt, BreakStep, ContinueStep, is_loop, ClosingLaws}
 use Rattle.loop_laws.proofs.Numbered.{with_at_same}
 
 -- ---- the lines of statements

@@ -1,5 +1,6 @@
 -- Steps in front of what the rest of a run comes to, and its ends.
-use Rattle.std.proofs.Common.{◌≡◌, ℕ, ◌+◌, ◌<◌, ◌≤◌, false, List, [], ◌∷◌, ◌++◌, Option, Some, None, Result, Ok, refl, ap, ◌∙◌, sym, subst, add-zero, append-nil}
+use Rattle.std.proofs.Common.{◌≡◌, ℕ, ◌+◌, ◌<◌, ◌≤◌, false, List, [], ◌∷◌, ◌++◌, Option, Some, None, Result, Ok, refl, ap, ◌∙◌, sym}
+use Rattle.std.proofs.Common.{subst, add-zero, append-nil}
 use Rattle.a95_base.specs.Outcome.{Outcome, Finished, Going, Run, Ended}
 use Rattle.loop_tree.specs.declared.stuck.StuckState.{StuckState}
 use Rattle.loop_tree.specs.declared.tree.CodeLine.{CodeLine}
@@ -55,7 +56,8 @@ turned {functions} {turns} {written} {s} {t} {e} is m =
     (ap (after (configuration turns written s)) is ∙ ap (λ (o : List ℕ). Some (configuration (turns + 1) o t))
     (append-nil written))) m
 
-pub gives : {A : Type 0} {functions : List Function} {turns : ℕ} {written : List ℕ} {s : State} {e : Expected} {result : Result A StuckState} {a : A}
+pub gives : {A : Type 0} {functions : List Function} {turns : ℕ} {written : List ℕ} {s : State} {e : Expected}
+    {result : Result A StuckState} {a : A}
     (next : A → State) →
     step functions s ≡ given result next → result ≡ Ok a → Meets functions (configuration turns written (next a)) e →
     Meets functions (configuration turns written s) e

@@ -1,9 +1,11 @@
 -- Variables and blocks by their numbers.
-use Rattle.std.proofs.Common.{◌≡◌, ◌≢◌, ℕ, zero, suc, ◌==◌, ◌<◌, ◌≤◌, Bool, true, false, List, [], ◌∷◌, Option, Some, None, refl, ap, ◌∙◌, sym, arith, eq-eqb, nat_lt}
+use Rattle.std.proofs.Common.{◌≡◌, ◌≢◌, ℕ, zero, suc, ◌==◌, ◌<◌, ◌≤◌, Bool, true, false, List, [], ◌∷◌, Option, Some, None, refl}
+use Rattle.std.proofs.Common.{ap, ◌∙◌, sym, arith, eq-eqb, nat_lt}
 use Rattle.std.specs.Prelude.{get_or, if◌then◌else◌}
 use Rattle.std.proofs.lemmas.Bool.Decides.{nat_tests}
 use Rattle.loop_tree.specs.State.{Cells, with_at, cells_numbered, with_cells, without, made_before}
-use Rattle.loop_laws.specs.Numbered.{MadeHere, MadeElsewhere, ChangedHere, ChangedElsewhere, FreedHere, FreedElsewhere, MadeInCall, MadeBeforeCall}
+use Rattle.loop_laws.specs.Numbered.{MadeHere, MadeElsewhere, ChangedHere, ChangedElsewhere, FreedHere, FreedElsewhere, MadeInCall}
+use Rattle.loop_laws.specs.Numbered.{MadeBeforeCall}
 
 pub with_at_same : {A : Type 0} (d : A) (xs : List A) (n : ℕ) (v : A) → get_or (with_at d xs n v) n d ≡ v
 unfolding with_at

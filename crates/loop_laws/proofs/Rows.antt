@@ -14,9 +14,16 @@ use Rattle.loop_tree.specs.Lines.{lines_of}
 use Rattle.loop_tree.specs.declared.stuck.StuckState.TheVariants as stuck
 use Rattle.loop_tree.specs.State.{Brace, Frame, Stuck, Ends}
 use Rattle.loop_tree.specs.Values.{holds, int_value, text_value, taken}
-use Rattle.loop_tree.specs.Machine.{step, step_at, do_line, row_line, int_line, take_line, text_line, block_line, change_line, free_line, new_ints_line, new_texts_line, same_ints_line, same_texts_line, control_line, call_line, enter, enter_if, turn, callable, is_usable, match_letters, at_line, record_line, put_line, close_line, leave, back_to, given}
+use Rattle.loop_tree.specs.Machine.{step, step_at, do_line, row_line, int_line, take_line, text_line, block_line, change_line}
+use Rattle.loop_tree.specs.Machine.{free_line, new_ints_line, new_texts_line, same_ints_line, same_texts_line, control_line}
+use Rattle.loop_tree.specs.Machine.{call_line, enter, enter_if, turn, callable, is_usable, match_letters, at_line, record_line}
+use Rattle.loop_tree.specs.Machine.{put_line, close_line, leave, back_to, given}
 use Rattle.loop_laws.specs.At.{with_text, int_read, text_read, Variables, at, value_of, with_int, found, entered}
-use Rattle.loop_laws.specs.Rows.{RowStep, behind_read, IntStep, TextStep, StoreIntStep, StoreTextStep, GrowStep, FreeStep, NewStep, TempStep, CopyStep, MarkStep, NewTextStep, TempTextStep, CopyTextStep, SameIntsStep, SameTextsStep, StopStep, FaultStep, SourceLineStep, PutIntStep, PutLogStep, PutTextStep, WriteStep, SkipStep, CallStep, ReturnStep, LastBraceStep, NoLineStep, LeavesToCaller, LeavesProgram, bytes_taken, begins}
+use Rattle.loop_laws.specs.Rows.{RowStep, behind_read, IntStep, TextStep, StoreIntStep, StoreTextStep, GrowStep, FreeStep, NewStep}
+use Rattle.loop_laws.specs.Rows.{TempStep, CopyStep, MarkStep, NewTextStep, TempTextStep, CopyTextStep, SameIntsStep, SameTextsStep}
+use Rattle.loop_laws.specs.Rows.{StopStep, FaultStep, SourceLineStep, PutIntStep, PutLogStep, PutTextStep, WriteStep, SkipStep}
+use Rattle.loop_laws.specs.Rows.{CallStep, ReturnStep, LastBraceStep, NoLineStep, LeavesToCaller, LeavesProgram, bytes_taken}
+use Rattle.loop_laws.specs.Rows.{begins}
 
 -- ---- integers and texts
 

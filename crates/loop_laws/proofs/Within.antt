@@ -1,13 +1,17 @@
 -- What rows read and change where nothing is wrong.
-use Rattle.std.proofs.Common.{◌≡◌, ℕ, ◌<◌, ◌≤◌, ◌-◌, Bool, true, false, Ok, Err, refl, ap, ◌∙◌, arith, ℤ, pos, nat_lt, nat_le, if◌then◌else◌, length}
+use Rattle.std.proofs.Common.{◌≡◌, ℕ, ◌<◌, ◌≤◌, ◌-◌, Bool, true, false, Ok, Err, refl, ap, ◌∙◌, arith, ℤ, pos, nat_lt, nat_le}
+use Rattle.std.proofs.Common.{if◌then◌else◌, length}
 use Rattle.std.specs.Prelude.{set, replicate, not}
 use Rattle.std.specs.Ordering.{int_eq}
 use Rattle.std.proofs.lemmas.Bool.Decides.{nat_tests, Decides-int_eq}
 use Rattle.loop_tree.specs.declared.stuck.StuckState.TheVariants as stuck
 use Rattle.loop_tree.specs.State.{Ints, Texts, cells_or_stuck, cells_at, with_cells}
-use Rattle.loop_tree.specs.Values.{number_at, text_at, ints_of, texts_of, and_then, place_in, largest, size_within, cell_count, more_cells, holds}
+use Rattle.loop_tree.specs.Values.{number_at, text_at, ints_of, texts_of, and_then, place_in, largest, size_within, cell_count}
+use Rattle.loop_tree.specs.Values.{more_cells, holds}
 use Rattle.loop_tree.specs.Machine.{changed, freed}
-use Rattle.loop_laws.specs.Within.{CellsThere, IntsThere, TextsThere, ChangeThere, FreedThere, IntWithin, TextWithin, StoreIntWithin, StoreTextWithin, ZerosWithin, TextsWithin, GrownWithin, TruthHolds, PositiveHolds}
+use Rattle.loop_laws.specs.Within.{CellsThere, IntsThere, TextsThere, ChangeThere, FreedThere, IntWithin, TextWithin}
+use Rattle.loop_laws.specs.Within.{StoreIntWithin, StoreTextWithin, ZerosWithin, TextsWithin, GrownWithin, TruthHolds}
+use Rattle.loop_laws.specs.Within.{PositiveHolds}
 
 -- ---- a reference to a living block
 

@@ -28,7 +28,8 @@ use Rattle.loop_tree.specs.Lines.{lines_of}
 use Rattle.loop_tree.specs.State.{Brace, Cells, State, Comes, Stuck, Next, Goes, Ends, cells_at}
 use Rattle.loop_tree.specs.Values.{block_at, holds, zeros, texts_of_length, grown}
 use Rattle.loop_tree.specs.Machine.{step, quiet, turn, given, changed, store_int, store_text, freed, back_to}
-use Rattle.loop_laws.specs.At.{Variables, frame_of, at, value_of, bytes_of, number_of, int_read, text_read, with_int, with_text, with_blocks, with_ints_reference, with_texts_reference, with_new_block, called, entered, returned}
+use Rattle.loop_laws.specs.At.{Variables, frame_of, at, value_of, bytes_of, number_of, int_read, text_read, with_int, with_text}
+use Rattle.loop_laws.specs.At.{with_blocks, with_ints_reference, with_texts_reference, with_new_block, called, entered, returned}
 
 -- where the step at a row leads, and where the one at any line leads
 abbrev pub LineStep : CodeLine → (List Function → Variables → List CodeLine → List Brace → Next) → Type 0

@@ -2,7 +2,8 @@
 use Rattle.std.specs.Prelude.{◌≡◌, ℕ, ◌<◌, ◌≤◌, ◌-◌, ℤ, pos, Bool, true, List, length, set, replicate, Option, Some, Result, Ok}
 use Rattle.loop_tree.specs.declared.stuck.StuckState.{StuckState}
 use Rattle.loop_tree.specs.State.{Cells, Ints, Texts, Block, cells_numbered, cells_at, with_cells, without}
-use Rattle.loop_tree.specs.Values.{number_at, text_at, ints_at, texts_at, int_cell, text_cell, largest, zeros, texts_of_length, cell_count, more_cells, grown, holds, truth}
+use Rattle.loop_tree.specs.Values.{number_at, text_at, ints_at, texts_at, int_cell, text_cell, largest, zeros, texts_of_length}
+use Rattle.loop_tree.specs.Values.{cell_count, more_cells, grown, holds, truth}
 use Rattle.loop_tree.specs.Machine.{changed, freed, store_int, store_text}
 
 -- ---- a reference to a living block

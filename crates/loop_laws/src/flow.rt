@@ -1,6 +1,8 @@
 //! Where choices, loops and breaks lead.
 
-ghost use Rattle.loop_laws.specs.Braces.{Split, FirstRow, FirstIf, FirstIfElse, FirstUp, FirstDown, FirstForever, IfStep, IfElseStep, ElseStep, ChoiceEndStep, UpStep, UpEndStep, DownStep, DownEndStep, ForeverStep, ForeverEndStep, BreakStep, ContinueStep, ClosingLaws};
+ghost use Rattle.loop_laws.specs.Braces.{Split, FirstRow, FirstIf, FirstIfElse, FirstUp, FirstDown, FirstForever, IfStep};
+ghost use Rattle.loop_laws.specs.Braces.{IfElseStep, ElseStep, ChoiceEndStep, UpStep, UpEndStep, DownStep, DownEndStep};
+ghost use Rattle.loop_laws.specs.Braces.{ForeverStep, ForeverEndStep, BreakStep, ContinueStep, ClosingLaws};
 
 /// The lines of two lists of statements, and of a list with each kind of statement in front.
 pub fn lines_of_statements()

@@ -1,7 +1,10 @@
 //! Variables and blocks by their numbers, and what is read and changed where nothing is wrong.
 
-ghost use Rattle.loop_laws.specs.Within.{CellsThere, IntsThere, TextsThere, ChangeThere, FreedThere, IntWithin, TextWithin, StoreIntWithin, StoreTextWithin, ZerosWithin, TextsWithin, GrownWithin, TruthHolds, PositiveHolds};
-ghost use Rattle.loop_laws.specs.Numbered.{SetHere, SetElsewhere, MadeHere, MadeElsewhere, ChangedHere, ChangedElsewhere, FreedHere, FreedElsewhere, MadeInCall, MadeBeforeCall};
+ghost use Rattle.loop_laws.specs.Within.{CellsThere, IntsThere, TextsThere, ChangeThere, FreedThere, IntWithin, TextWithin};
+ghost use Rattle.loop_laws.specs.Within.{StoreIntWithin, StoreTextWithin, ZerosWithin, TextsWithin, GrownWithin, TruthHolds};
+ghost use Rattle.loop_laws.specs.Within.{PositiveHolds};
+ghost use Rattle.loop_laws.specs.Numbered.{SetHere, SetElsewhere, MadeHere, MadeElsewhere, ChangedHere, ChangedElsewhere};
+ghost use Rattle.loop_laws.specs.Numbered.{FreedHere, FreedElsewhere, MadeInCall, MadeBeforeCall};
 
 /// What a reference to a living block gives, and what changes and freeing leave.
 pub fn living_blocks()

@@ -1,6 +1,9 @@
 //! Where the step at each row leads.
 
-ghost use Rattle.loop_laws.specs.Rows.{IntStep, TextStep, StoreIntStep, StoreTextStep, GrowStep, FreeStep, NewStep, TempStep, CopyStep, MarkStep, NewTextStep, TempTextStep, CopyTextStep, SameIntsStep, SameTextsStep, StopStep, FaultStep, SourceLineStep, PutIntStep, PutLogStep, PutTextStep, WriteStep, SkipStep, CallStep, ReturnStep, LastBraceStep, NoLineStep, LeavesToCaller, LeavesProgram};
+ghost use Rattle.loop_laws.specs.Rows.{IntStep, TextStep, StoreIntStep, StoreTextStep, GrowStep, FreeStep, NewStep, TempStep};
+ghost use Rattle.loop_laws.specs.Rows.{CopyStep, MarkStep, NewTextStep, TempTextStep, CopyTextStep, SameIntsStep, SameTextsStep};
+ghost use Rattle.loop_laws.specs.Rows.{StopStep, FaultStep, SourceLineStep, PutIntStep, PutLogStep, PutTextStep, WriteStep};
+ghost use Rattle.loop_laws.specs.Rows.{SkipStep, CallStep, ReturnStep, LastBraceStep, NoLineStep, LeavesToCaller, LeavesProgram};
 
 /// `iN = ..;` and `sN = ..;`, whatever stands on the right.
 pub fn integers_and_texts()

@@ -1,5 +1,6 @@
 -- What signs say of entries, and what a level makes of a distance.
-use Rattle.std.proofs.Common.{◌≡◌, ℕ, zero, suc, pos, negsuc, ◌<◌, Bool, true, false, cond, ◌||◌, List, [], ◌∷◌, refl, sym, ap, ◌∙◌, arith}
+use Rattle.std.proofs.Common.{◌≡◌, ℕ, zero, suc, pos, negsuc, ◌<◌, Bool, true, false, cond, ◌||◌, List, [], ◌∷◌, refl, sym, ap, ◌∙◌}
+use Rattle.std.proofs.Common.{arith}
 use Rattle.std.specs.Prelude.{filter}
 use Rattle.std.specs.List.{list_any}
 use Rattle.std.proofs.lemmas.Int.{ints}
@@ -39,19 +40,23 @@ pub some_fails : {A : Type 0} (p : A → Bool) (xs : List A) → Every (λ x. p 
 some_fails p [] h = refl
 some_fails p (x ∷ xs) h = ap (λ b. b || list_any p xs) h.0 ∙ some_fails p xs h.1
 
-kept : {A : Type 0} (P : A → Type 0) (p : A → Bool) (x : A) (xs : List A) (b : Bool) → p x ≡ b → P x → Every (λ y. P y × (p y ≡ true)) (filter p xs) → Every (λ y. P y × (p y ≡ true)) (cond b (x ∷ filter p xs) (filter p xs))
+kept : {A : Type 0} (P : A → Type 0) (p : A → Bool) (x : A) (xs : List A) (b : Bool) → p x ≡ b → P x →
+    Every (λ y. P y × (p y ≡ true)) (filter p xs) → Every (λ y. P y × (p y ≡ true)) (cond b (x ∷ filter p xs) (filter p xs))
 kept P p x xs true is here others = ((here, is), others)
 kept P p x xs false is here others = others
 
-unkept : {A : Type 0} (P : A → Type 0) (p : A → Bool) (x : A) (xs : List A) (b : Bool) → p x ≡ b → Every P (cond b (x ∷ filter p xs) (filter p xs)) → (p x ≡ true → P x) × Every P (filter p xs)
+unkept : {A : Type 0} (P : A → Type 0) (p : A → Bool) (x : A) (xs : List A) (b : Bool) → p x ≡ b →
+    Every P (cond b (x ∷ filter p xs) (filter p xs)) → (p x ≡ true → P x) × Every P (filter p xs)
 unkept P p x xs true is h = (λ t. h.0, h.1)
 unkept P p x xs false is h = (λ t. absurd (false≢true (sym is ∙ t)), h)
 
 -- where each item that passes has P
-pub Every-from_filter : {A : Type 0} (P : A → Type 0) (p : A → Bool) (xs : List A) → Every P (filter p xs) → Every (λ x. p x ≡ true → P x) xs
+pub Every-from_filter : {A : Type 0} (P : A → Type 0) (p : A → Bool) (xs : List A) → Every P (filter p xs) →
+    Every (λ x. p x ≡ true → P x) xs
 Every-from_filter P p [] h = tt
 Every-from_filter P p (x ∷ xs) h = let parts = unkept P p x xs (p x) refl h in (parts.0, Every-from_filter P p xs parts.1)
 
-pub Every-filter : {A : Type 0} (P : A → Type 0) (p : A → Bool) (xs : List A) → Every P xs → Every (λ x. P x × (p x ≡ true)) (filter p xs)
+pub Every-filter : {A : Type 0} (P : A → Type 0) (p : A → Bool) (xs : List A) → Every P xs →
+    Every (λ x. P x × (p x ≡ true)) (filter p xs)
 Every-filter P p [] h = tt
 Every-filter P p (x ∷ xs) h = kept P p x xs (p x) refl h.0 (Every-filter P p xs h.1)

@@ -1,5 +1,6 @@
 -- The greedy choice of an order, and which orders are allowed.
-use Rattle.std.specs.Prelude.{◌≡◌, ◌==◌, ℕ, zero, suc, Bool, true, false, not, ◌&&◌, if◌then◌else◌, List, [], ◌∷◌, Option, Some, None, find, filter, option_map, option_and_then}
+use Rattle.std.specs.Prelude.{◌≡◌, ◌==◌, ℕ, zero, suc, Bool, true, false, not, ◌&&◌, if◌then◌else◌, List, [], ◌∷◌, Option, Some}
+use Rattle.std.specs.Prelude.{None, find, filter, option_map, option_and_then}
 use Rattle.std.specs.List.{list_any, list_all}
 use Rattle.a95_base.specs.Lists.{down_to_one}
 use Rattle.rank_shape.specs.Order.{Level, IsOrder, element_order_of}
@@ -30,7 +31,8 @@ some_entry test loop = list_any (λ distance. test (sign_at distance loop))
 
 -- no distance has Any for the loop, and no two have opposite signs
 abbrev pub suits : ℕ → List (List Entry) → Bool
-suits loop distances = not (some_entry is_unknown loop distances) && not (some_entry is_up loop distances && some_entry is_down loop distances)
+suits loop distances = not (some_entry is_unknown loop distances)
+    && not (some_entry is_up loop distances && some_entry is_down loop distances)
 
 -- the distances that the loop leaves to those inside it
 abbrev pub unsettled : ℕ → List (List Entry) → List (List Entry)

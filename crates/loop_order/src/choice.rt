@@ -59,7 +59,8 @@ struct NextLevel {
 // The highest-numbered loop left that suits the distances not yet settled.
 fn next_level<const R: usize>(dists: &[Dist<R>], taken: &[bool; R]) -> Option<NextLevel>
     requires { R ≤ greatest_rank }
-    ensures first { option_map (λ next. next.number) result ≡ find (λ loop. suits loop (open_distances taken.now (distances_of R dists.now))) (loops_left R taken.now) }
+    ensures first { option_map (λ next. next.number) result ≡ find (λ loop. suits loop (open_distances taken.now (distances_of R dists.now)))
+        (loops_left R taken.now) }
     ensures direction { IfSome result (λ next. next.down ≡ some_entry is_up next.number (open_distances taken.now (distances_of R dists.now))) }
 {
     for dim in (0..R).rev() {

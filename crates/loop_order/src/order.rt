@@ -27,7 +27,8 @@ pub fn legal<const R: usize>(order: &Order<R>, dists: &[Dist<R>]) -> bool
 /// than the one that stores.
 pub fn reads_come_first<const R: usize>(shape: &Shape<R>, order: &Order<R>, dists: &[Dist<R>])
     requires { IsLegal order.now (distances_of R dists.now) }
-    ensures { Every (λ distance. Pairwise (λ stores reads. ¬ IsApart distance stores reads) (tour order.now shape.now)) (distances_of R dists.now) }
+    ensures { Every (λ distance. Pairwise (λ stores reads. ¬ IsApart distance stores reads) (tour order.now shape.now))
+        (distances_of R dists.now) }
 {
     order.known();
 }
@@ -36,7 +37,8 @@ pub fn reads_come_first<const R: usize>(shape: &Shape<R>, order: &Order<R>, dist
 /// the other way, would be legal, the turn that reads comes no earlier in the walk than the one that stores.
 pub fn stores_come_first<const R: usize>(shape: &Shape<R>, order: &Order<R>, dists: &[Dist<R>])
     requires { IsLegal (turned order.now) (distances_of R dists.now) }
-    ensures { Every (λ distance. Pairwise (λ reads stores. ¬ IsApart distance stores reads) (tour order.now shape.now)) (distances_of R dists.now) }
+    ensures { Every (λ distance. Pairwise (λ reads stores. ¬ IsApart distance stores reads) (tour order.now shape.now))
+        (distances_of R dists.now) }
 {
     order.known();
 }

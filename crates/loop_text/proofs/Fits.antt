@@ -1,11 +1,20 @@
 -- Whatever a line is taken for has numbers in range, where its bytes are bytes.
-use Rattle.std.proofs.Common.{ℕ, ℤ, FitsSigned, zero, suc, ◌+◌, ◌-◌, ◌*◌, ◌%◌, ◌<◌, ◌^◌, ◌==◌, Bool, true, false, if◌then◌else◌, List, [], ◌∷◌, ◌++◌, length, drop, codes, arith}
+use Rattle.std.proofs.Common.{ℕ, ℤ, FitsSigned, zero, suc, ◌+◌, ◌-◌, ◌*◌, ◌%◌, ◌<◌, ◌^◌, ◌==◌, Bool, true, false, if◌then◌else◌}
+use Rattle.std.proofs.Common.{List, [], ◌∷◌, ◌++◌, length, drop, codes, arith}
 use Rattle.std.proofs.lemmas.Int.{ints}
 use Rattle.std.specs.Int.{w64, cast_signed, cast_unsigned, int_wrapping_neg}
 use Rattle.std.specs.List.{AllByRecursion}
 use Rattle.loop_tree.specs.declared.atom.Argument.{Argument}
-use Rattle.loop_tree.specs.Program.{FitsNumber, FitsByte, FitsAtom, FitsText, FitsReference, FitsArgument, FitsInt, FitsWords, FitsBlock, FitsRow, FitsLine}
-use Rattle.loop_text.specs.Guess.{byte_at, begins, is_digit, NumberOn, number_onto, number_on, index_on, AtomOn, atom_on, begins_atom, escape_onto, quoted_onto, ends_quote, escape_left, behind_quote, TextOn, text_on, begins_text, ReferenceOn, reference_on, ArgumentOn, argument_on, arguments_onto, arguments_on, operator_on, operator_length, operation_on, int_cell_on, int_power_on, int_xor_on, int_index_on, int_compare_on, int_plain_on, int_call_on, int_value_on, text_cell_on, text_join_on, text_part_on, text_over_on, text_fit_on, text_call_on, text_value_on, store_int_on, store_text_on, ints_value_on, new_text_on, texts_value_on, ints_row_on, texts_row_on, int_row_on, text_row_on, call_on, variable_row_on, grow_on, built_in_on, for_on, loop_on, word_on, line_on}
+use Rattle.loop_tree.specs.Program.{FitsNumber, FitsByte, FitsAtom, FitsText, FitsReference, FitsArgument, FitsInt, FitsWords}
+use Rattle.loop_tree.specs.Program.{FitsBlock, FitsRow, FitsLine}
+use Rattle.loop_text.specs.Guess.{byte_at, begins, is_digit, NumberOn, number_onto, number_on, index_on, AtomOn, atom_on}
+use Rattle.loop_text.specs.Guess.{begins_atom, escape_onto, quoted_onto, ends_quote, escape_left, behind_quote, TextOn, text_on}
+use Rattle.loop_text.specs.Guess.{begins_text, ReferenceOn, reference_on, ArgumentOn, argument_on, arguments_onto, arguments_on}
+use Rattle.loop_text.specs.Guess.{operator_on, operator_length, operation_on, int_cell_on, int_power_on, int_xor_on, int_index_on}
+use Rattle.loop_text.specs.Guess.{int_compare_on, int_plain_on, int_call_on, int_value_on, text_cell_on, text_join_on, text_part_on}
+use Rattle.loop_text.specs.Guess.{text_over_on, text_fit_on, text_call_on, text_value_on, store_int_on, store_text_on}
+use Rattle.loop_text.specs.Guess.{ints_value_on, new_text_on, texts_value_on, ints_row_on, texts_row_on, int_row_on, text_row_on}
+use Rattle.loop_text.specs.Guess.{call_on, variable_row_on, grow_on, built_in_on, for_on, loop_on, word_on, line_on}
 
 -- a fact of a value, by a name that keeps the value in sight
 record Holds {A : Type 0} (P : A → Type 0) (x : A) : Type 0 where
@@ -40,7 +49,9 @@ number_fits : (n : ℕ) (bytes : List ℕ) → n < 2 ^ 64 → AreBytes bytes →
 number_fits n [] small h = (small, tt)
 number_fits n (c ∷ cs) small h =
     fact_of FitsNumberOn (number_onto n (c ∷ cs))
-    (fits_if FitsNumberOn (is_digit c) _ _ (record { fact = number_fits (((n * 10) % 2 ^ 64 + (c - 48)) % 2 ^ 64) cs (omega arith) h.1 }) (record { fact = (small, h) }))
+    (fits_if FitsNumberOn (is_digit c) _ _
+    (record { fact = number_fits (((n * 10) % 2 ^ 64 + (c - 48)) % 2 ^ 64) cs (omega arith) h.1 })
+    (record { fact = (small, h) }))
 
 abbrev FitsIndexOn : NumberOn → Type 0
 FitsIndexOn n = FitsNumber n.value × AreBytes n.rest
@@ -69,18 +80,25 @@ atom_fits bytes h =
     fact_of FitsAtomOn (atom_on bytes)
     (fits_if FitsAtomOn (byte_at bytes 0 == 105) _ _ (record { fact = (index.0, index.1) })
     (fits_if FitsAtomOn (byte_at bytes 0 == 107) _ _ (record { fact = (index.0, index.1) })
-    (fits_if FitsAtomOn (byte_at bytes 0 == 45) _ _ (record { fact = (negative_fits (cast_signed w64 (number_on (drop 1 bytes)).value), below.1) }) (record { fact = (signed_fits (number_on bytes).value whole.0, whole.1) }))))
+    (fits_if FitsAtomOn (byte_at bytes 0 == 45) _ _
+    (record { fact = (negative_fits (cast_signed w64 (number_on (drop 1 bytes)).value), below.1) })
+    (record { fact = (signed_fits (number_on bytes).value whole.0, whole.1) }))))
 
 -- ---- texts, references and arguments
 
-quoted_fits : (done : List ℕ) (left n : ℕ) (bytes : List ℕ) → AreBytes done → AreBytes bytes → AreBytes (quoted_onto done left n bytes)
+quoted_fits : (done : List ℕ) (left n : ℕ) (bytes : List ℕ) → AreBytes done → AreBytes bytes →
+    AreBytes (quoted_onto done left n bytes)
 quoted_fits done left n [] d h = d
 quoted_fits done left n (c ∷ cs) d h =
     fact_of AreBytes (quoted_onto done left n (c ∷ cs))
     (fits_if AreBytes (left == 0) _ _
     (fits_if AreBytes (c == 34) _ _ (record { fact = d })
-    (fits_if AreBytes (c == 92) _ _ (record { fact = quoted_fits done 3 0 cs d h.1 }) (record { fact = quoted_fits (done ++ c ∷ []) 0 0 cs (bytes_more done c d h.0) h.1 })))
-    (fits_if AreBytes (left == 1) _ _ (record { fact = quoted_fits (done ++ escape_onto n c ∷ []) 0 0 cs (bytes_more done (escape_onto n c) d (omega arith)) h.1 }) (record { fact = quoted_fits done (left - 1) (escape_onto n c) cs d h.1 })))
+    (fits_if AreBytes (c == 92) _ _ (record { fact = quoted_fits done 3 0 cs d h.1 })
+    (record { fact = quoted_fits (done ++ c ∷ []) 0 0 cs (bytes_more done c d h.0) h.1 })))
+    (fits_if AreBytes (left == 1) _ _
+    (record {
+      fact = quoted_fits (done ++ escape_onto n c ∷ []) 0 0 cs (bytes_more done (escape_onto n c) d (omega arith)) h.1;
+    }) (record { fact = quoted_fits done (left - 1) (escape_onto n c) cs d h.1 })))
 
 behind_fits : (left : ℕ) (bytes : List ℕ) → AreBytes bytes → AreBytes (behind_quote left bytes)
 behind_fits left [] h = tt
@@ -97,7 +115,9 @@ text_fits bytes h =
     let behind = bytes_drop 1 bytes h in
     let index = index_fits (drop 1 bytes) behind in
     fact_of FitsTextOn (text_on bytes)
-    (fits_if FitsTextOn (byte_at bytes 0 == 34) _ _ (record { fact = (quoted_fits [] 0 0 (drop 1 bytes) tt behind, behind_fits 0 (drop 1 bytes) behind) }) (record { fact = (index.0, index.1) }))
+    (fits_if FitsTextOn (byte_at bytes 0 == 34) _ _
+    (record { fact = (quoted_fits [] 0 0 (drop 1 bytes) tt behind, behind_fits 0 (drop 1 bytes) behind) })
+    (record { fact = (index.0, index.1) }))
 
 abbrev FitsReferenceOn : ReferenceOn → Type 0
 FitsReferenceOn r = FitsReference r.value × AreBytes r.rest
@@ -107,7 +127,8 @@ unfolding reference_on
 reference_fits bytes h =
     let index = index_fits (drop 1 bytes) (bytes_drop 1 bytes h) in
     fact_of FitsReferenceOn (reference_on bytes)
-    (fits_if FitsReferenceOn (byte_at bytes 0 == 98) _ _ (record { fact = (index.0, index.1) }) (record { fact = (index.0, index.1) }))
+    (fits_if FitsReferenceOn (byte_at bytes 0 == 98) _ _ (record { fact = (index.0, index.1) })
+    (record { fact = (index.0, index.1) }))
 
 abbrev FitsArgumentOn : ArgumentOn → Type 0
 FitsArgumentOn a = FitsArgument a.value × AreBytes a.rest
@@ -129,20 +150,26 @@ arguments_more : (done : List Argument) (a : Argument) → AreArguments done →
 arguments_more [] a d h = (h, tt)
 arguments_more (b ∷ done) a d h = (d.0, arguments_more done a d.1 h)
 
-onto_fits : (done : List Argument) (most : ℕ) (bytes : List ℕ) → AreArguments done → AreBytes bytes → AreArguments (arguments_onto done most bytes)
+onto_fits : (done : List Argument) (most : ℕ) (bytes : List ℕ) → AreArguments done → AreBytes bytes →
+    AreArguments (arguments_onto done most bytes)
 unfolding arguments_onto
 onto_fits done zero bytes d h = d
 onto_fits done (suc most) bytes d h =
     let a = argument_fits bytes h in
     let more = arguments_more done (argument_on bytes).value d a.0 in
     fact_of AreArguments (arguments_onto done (suc most) bytes)
-    (fits_if AreArguments (byte_at ((argument_on bytes).rest) 0 == 44) _ _ (record { fact = onto_fits (done ++ (argument_on bytes).value ∷ []) most (drop 2 ((argument_on bytes).rest)) more (bytes_drop 2 ((argument_on bytes).rest) a.1) }) (record { fact = more }))
+    (fits_if AreArguments (byte_at ((argument_on bytes).rest) 0 == 44) _ _
+    (record {
+      fact = onto_fits (done ++ (argument_on bytes).value ∷ []) most (drop 2 ((argument_on bytes).rest)) more
+          (bytes_drop 2 ((argument_on bytes).rest) a.1);
+    }) (record { fact = more }))
 
 arguments_fit : (bytes : List ℕ) → AreBytes bytes → AreArguments (arguments_on bytes)
 unfolding arguments_on
 arguments_fit bytes h =
     fact_of AreArguments (arguments_on bytes)
-    (fits_if AreArguments (byte_at bytes 0 == 41) _ _ (record { fact = tt }) (record { fact = onto_fits [] (length bytes) bytes tt h }))
+    (fits_if AreArguments (byte_at bytes 0 == 41) _ _ (record { fact = tt })
+    (record { fact = onto_fits [] (length bytes) bytes tt h }))
 
 -- ---- values
 
@@ -157,7 +184,8 @@ unfolding operation_on
 operation_fits a h =
     let place = operator_length (operator_on (drop 1 a.rest)) + 2 in
     fact_of FitsInt (operation_on a)
-    (fits_if FitsInt (byte_at a.rest 0 == 32) _ _ (record { fact = (h.0, (atom_fits (drop place a.rest) (bytes_drop place a.rest h.1)).0) }) (record { fact = h.0 }))
+    (fits_if FitsInt (byte_at a.rest 0 == 32) _ _
+    (record { fact = (h.0, (atom_fits (drop place a.rest) (bytes_drop place a.rest h.1)).0) }) (record { fact = h.0 }))
 
 two_atoms_fit : (a : AtomOn) → FitsAtomOn a → FitsAtom a.value × FitsAtom (atom_on (drop 2 a.rest)).value
 two_atoms_fit a h = (h.0, (second_fits a.rest h.1).0)
@@ -191,7 +219,8 @@ int_call_fits bytes h =
     (fits_if FitsInt (begins bytes (codes "f_len(")) _ _ (record { fact = at6.0 })
     (fits_if FitsInt (begins bytes (codes "f_index(")) _ _ (record { fact = two_texts_fit (text_on (drop 8 bytes)) at8 })
     (fits_if FitsInt (begins bytes (codes "f_code(")) _ _ (record { fact = at7.0 })
-    (fits_if FitsInt (begins bytes (codes "f_cmp(")) _ _ (record { fact = two_texts_fit (text_on (drop 6 bytes)) at6 }) (record { fact = int_plain_fits bytes h })))))
+    (fits_if FitsInt (begins bytes (codes "f_cmp(")) _ _ (record { fact = two_texts_fit (text_on (drop 6 bytes)) at6 })
+    (record { fact = int_plain_fits bytes h })))))
 
 cell_fits : (n : NumberOn) → FitsIndexOn n → FitsNumber n.value × FitsAtom (atom_on (drop 1 n.rest)).value
 cell_fits n h = (h.0, (atom_fits (drop 1 n.rest) (bytes_drop 1 n.rest h.1)).0)
@@ -201,7 +230,9 @@ unfolding int_value_on int_cell_on
 int_value_fits bytes h =
     fact_of FitsInt (int_value_on bytes)
     (fits_if FitsInt (begins_atom (byte_at bytes 0)) _ _ (record { fact = operation_fits (atom_on bytes) (atom_fits bytes h) })
-    (fits_if FitsInt (byte_at bytes 0 == 98) _ _ (record { fact = cell_fits (index_on (drop 1 bytes)) (index_fits (drop 1 bytes) (bytes_drop 1 bytes h)) }) (record { fact = int_call_fits bytes h })))
+    (fits_if FitsInt (byte_at bytes 0 == 98) _ _
+    (record { fact = cell_fits (index_on (drop 1 bytes)) (index_fits (drop 1 bytes) (bytes_drop 1 bytes h)) })
+    (record { fact = int_call_fits bytes h })))
 
 text_part_fits : (t : TextOn) → FitsTextOn t → FitsWords (text_part_on t)
 unfolding text_part_on
@@ -221,17 +252,21 @@ text_call_fits bytes h =
     (fits_if FitsWords (begins bytes (codes "f_cat(")) _ _ (record { fact = two_texts_fit (text_on (drop 6 bytes)) at6 })
     (fits_if FitsWords (begins bytes (codes "f_sub(")) _ _ (record { fact = text_part_fits (text_on (drop 6 bytes)) at6 })
     (fits_if FitsWords (begins bytes (codes "f_over(")) _ _ (record { fact = text_over_fits (text_on (drop 7 bytes)) at7 })
-    (fits_if FitsWords (begins bytes (codes "f_fit(")) _ _ (record { fact = (at6.0, (second_fits ((text_on (drop 6 bytes)).rest) at6.1).0) })
+    (fits_if FitsWords (begins bytes (codes "f_fit(")) _ _
+    (record { fact = (at6.0, (second_fits ((text_on (drop 6 bytes)).rest) at6.1).0) })
     (fits_if FitsWords (begins bytes (codes "f_trim(")) _ _ (record { fact = at7.0 })
     (fits_if FitsWords (begins bytes (codes "f_left(")) _ _ (record { fact = at7.0 })
-    (fits_if FitsWords (begins bytes (codes "f_right(")) _ _ (record { fact = at8.0 }) (record { fact = (atom_fits (drop 6 bytes) (bytes_drop 6 bytes h)).0 }))))))))
+    (fits_if FitsWords (begins bytes (codes "f_right(")) _ _ (record { fact = at8.0 })
+    (record { fact = (atom_fits (drop 6 bytes) (bytes_drop 6 bytes h)).0 }))))))))
 
 text_value_fits : (bytes : List ℕ) → AreBytes bytes → FitsWords (text_value_on bytes)
 unfolding text_value_on text_cell_on
 text_value_fits bytes h =
     fact_of FitsWords (text_value_on bytes)
     (fits_if FitsWords (begins_text (byte_at bytes 0)) _ _ (record { fact = (text_fits bytes h).0 })
-    (fits_if FitsWords (byte_at bytes 0 == 99) _ _ (record { fact = cell_fits (index_on (drop 1 bytes)) (index_fits (drop 1 bytes) (bytes_drop 1 bytes h)) }) (record { fact = text_call_fits bytes h })))
+    (fits_if FitsWords (byte_at bytes 0 == 99) _ _
+    (record { fact = cell_fits (index_on (drop 1 bytes)) (index_fits (drop 1 bytes) (bytes_drop 1 bytes h)) })
+    (record { fact = text_call_fits bytes h })))
 
 -- ---- rows
 
@@ -244,7 +279,8 @@ ints_value_fits n bytes k h =
     (fits_if FitsBlock (begins bytes (codes "f_new(")) _ _ (record { fact = (k, at6.0) })
     (fits_if FitsBlock (begins bytes (codes "f_temp(")) _ _ (record { fact = (k, at7.0) })
     (fits_if FitsBlock (begins bytes (codes "f_copy(")) _ _ (record { fact = (k, at7.0) })
-    (fits_if FitsBlock (begins bytes (codes "f_mark(")) _ _ (record { fact = (k, at7.0) }) (record { fact = (k, (index_fits (drop 1 bytes) (bytes_drop 1 bytes h)).0) })))))
+    (fits_if FitsBlock (begins bytes (codes "f_mark(")) _ _ (record { fact = (k, at7.0) })
+    (record { fact = (k, (index_fits (drop 1 bytes) (bytes_drop 1 bytes h)).0) })))))
 
 texts_value_fits : (n : ℕ) (bytes : List ℕ) → FitsNumber n → AreBytes bytes → FitsBlock (texts_value_on n bytes)
 unfolding texts_value_on new_text_on
@@ -252,9 +288,11 @@ texts_value_fits n bytes k h =
     let at11 = atom_fits (drop 11 bytes) (bytes_drop 11 bytes h) in
     let at12 = atom_fits (drop 12 bytes) (bytes_drop 12 bytes h) in
     fact_of FitsBlock (texts_value_on n bytes)
-    (fits_if FitsBlock (begins bytes (codes "f_new_text(")) _ _ (record { fact = (k, at11.0, (second_fits ((atom_on (drop 11 bytes)).rest) at11.1).0) })
+    (fits_if FitsBlock (begins bytes (codes "f_new_text(")) _ _
+    (record { fact = (k, at11.0, (second_fits ((atom_on (drop 11 bytes)).rest) at11.1).0) })
     (fits_if FitsBlock (begins bytes (codes "f_temp_text(")) _ _ (record { fact = (k, at12.0) })
-    (fits_if FitsBlock (begins bytes (codes "f_copy_text(")) _ _ (record { fact = (k, at12.0) }) (record { fact = (k, (index_fits (drop 1 bytes) (bytes_drop 1 bytes h)).0) }))))
+    (fits_if FitsBlock (begins bytes (codes "f_copy_text(")) _ _ (record { fact = (k, at12.0) })
+    (record { fact = (k, (index_fits (drop 1 bytes) (bytes_drop 1 bytes h)).0) }))))
 
 ints_row_fits : (n : NumberOn) → FitsIndexOn n → FitsBlock (ints_row_on n)
 unfolding ints_row_on store_int_on
@@ -262,7 +300,9 @@ ints_row_fits n h =
     let i = atom_fits (drop 1 n.rest) (bytes_drop 1 n.rest h.1) in
     let rest = (atom_on (drop 1 n.rest)).rest in
     fact_of FitsBlock (ints_row_on n)
-    (fits_if FitsBlock (byte_at n.rest 0 == 91) _ _ (record { fact = (h.0, i.0, (atom_fits (drop 4 rest) (bytes_drop 4 rest i.1)).0) }) (record { fact = ints_value_fits n.value (drop 3 n.rest) h.0 (bytes_drop 3 n.rest h.1) }))
+    (fits_if FitsBlock (byte_at n.rest 0 == 91) _ _
+    (record { fact = (h.0, i.0, (atom_fits (drop 4 rest) (bytes_drop 4 rest i.1)).0) })
+    (record { fact = ints_value_fits n.value (drop 3 n.rest) h.0 (bytes_drop 3 n.rest h.1) }))
 
 texts_row_fits : (n : NumberOn) → FitsIndexOn n → FitsBlock (texts_row_on n)
 unfolding texts_row_on store_text_on
@@ -270,7 +310,9 @@ texts_row_fits n h =
     let i = atom_fits (drop 1 n.rest) (bytes_drop 1 n.rest h.1) in
     let rest = (atom_on (drop 1 n.rest)).rest in
     fact_of FitsBlock (texts_row_on n)
-    (fits_if FitsBlock (byte_at n.rest 0 == 91) _ _ (record { fact = (h.0, i.0, (text_fits (drop 4 rest) (bytes_drop 4 rest i.1)).0) }) (record { fact = texts_value_fits n.value (drop 3 n.rest) h.0 (bytes_drop 3 n.rest h.1) }))
+    (fits_if FitsBlock (byte_at n.rest 0 == 91) _ _
+    (record { fact = (h.0, i.0, (text_fits (drop 4 rest) (bytes_drop 4 rest i.1)).0) })
+    (record { fact = texts_value_fits n.value (drop 3 n.rest) h.0 (bytes_drop 3 n.rest h.1) }))
 
 variable_row_fits : (letter : ℕ) (n : NumberOn) → FitsIndexOn n → FitsRow (variable_row_on letter n)
 unfolding variable_row_on int_row_on text_row_on call_on
@@ -279,7 +321,8 @@ variable_row_fits letter n h =
     (fits_if FitsRow (letter == 105) _ _ (record { fact = (h.0, int_value_fits (drop 3 n.rest) (bytes_drop 3 n.rest h.1)) })
     (fits_if FitsRow (letter == 115) _ _ (record { fact = (h.0, text_value_fits (drop 3 n.rest) (bytes_drop 3 n.rest h.1)) })
     (fits_if FitsRow (letter == 98) _ _ (record { fact = ints_row_fits n h })
-    (fits_if FitsRow (letter == 99) _ _ (record { fact = texts_row_fits n h }) (record { fact = (h.0, arguments_fit (drop 1 n.rest) (bytes_drop 1 n.rest h.1)) })))))
+    (fits_if FitsRow (letter == 99) _ _ (record { fact = texts_row_fits n h })
+    (record { fact = (h.0, arguments_fit (drop 1 n.rest) (bytes_drop 1 n.rest h.1)) })))))
 
 built_in_fits : (bytes : List ℕ) → AreBytes bytes → FitsRow (built_in_on bytes)
 unfolding built_in_on grow_on
@@ -288,13 +331,15 @@ built_in_fits bytes h =
     let at10 = atom_fits (drop 10 bytes) (bytes_drop 10 bytes h) in
     fact_of FitsRow (built_in_on bytes)
     (fits_if FitsRow (begins bytes (codes "f_at(")) _ _ (record { fact = (index_fits (drop 5 bytes) (bytes_drop 5 bytes h)).0 })
-    (fits_if FitsRow (begins bytes (codes "f_grow(")) _ _ (record { fact = (reference.0, (second_fits ((reference_on (drop 7 bytes)).rest) reference.1).0) })
+    (fits_if FitsRow (begins bytes (codes "f_grow(")) _ _
+    (record { fact = (reference.0, (second_fits ((reference_on (drop 7 bytes)).rest) reference.1).0) })
     (fits_if FitsRow (begins bytes (codes "f_free(")) _ _ (record { fact = reference.0 })
     (fits_if FitsRow (begins bytes (codes "f_stop(")) _ _ (record { fact = tt })
     (fits_if FitsRow (begins bytes (codes "f_fault(")) _ _ (record { fact = tt })
     (fits_if FitsRow (begins bytes (codes "f_put_int(")) _ _ (record { fact = at10.0 })
     (fits_if FitsRow (begins bytes (codes "f_put_log(")) _ _ (record { fact = at10.0 })
-    (fits_if FitsRow (begins bytes (codes "f_put_text(")) _ _ (record { fact = (text_fits (drop 11 bytes) (bytes_drop 11 bytes h)).0 })
+    (fits_if FitsRow (begins bytes (codes "f_put_text(")) _ _
+    (record { fact = (text_fits (drop 11 bytes) (bytes_drop 11 bytes h)).0 })
     (fits_if FitsRow (begins bytes (codes "f_record(")) _ _ (record { fact = tt }) (record { fact = tt }))))))))))
 
 -- ---- lines
@@ -307,14 +352,16 @@ loop_fits k h =
     let test = index_fits (drop 3 rest) (bytes_drop 3 rest first.1) in
     let behind = (index_on (drop 3 rest)).rest in
     fact_of FitsLine (loop_on k)
-    (fits_if FitsLine (byte_at ((atom_on (drop 3 k.rest)).rest) 0 == 59) _ _ (record { fact = (h.0, (atom_fits (drop 3 behind) (bytes_drop 3 behind test.1)).0) }) (record { fact = (h.0, first.0) }))
+    (fits_if FitsLine (byte_at ((atom_on (drop 3 k.rest)).rest) 0 == 59) _ _
+    (record { fact = (h.0, (atom_fits (drop 3 behind) (bytes_drop 3 behind test.1)).0) }) (record { fact = (h.0, first.0) }))
 
 word_fits : (bytes : List ℕ) → AreBytes bytes → FitsLine (word_on bytes)
 unfolding word_on
 word_fits bytes h =
     fact_of FitsLine (word_on bytes)
     (fits_if FitsLine (begins bytes (codes "f_")) _ _ (record { fact = built_in_fits bytes h })
-    (fits_if FitsLine (begins bytes (codes "for (k")) _ _ (record { fact = loop_fits (index_on (drop 6 bytes)) (index_fits (drop 6 bytes) (bytes_drop 6 bytes h)) })
+    (fits_if FitsLine (begins bytes (codes "for (k")) _ _
+    (record { fact = loop_fits (index_on (drop 6 bytes)) (index_fits (drop 6 bytes) (bytes_drop 6 bytes h)) })
     (fits_if FitsLine (begins bytes (codes "if (")) _ _ (record { fact = (atom_fits (drop 4 bytes) (bytes_drop 4 bytes h)).0 })
     (fits_if FitsLine (begins bytes (codes "} else")) _ _ (record { fact = tt })
     (fits_if FitsLine (begins bytes (codes "}")) _ _ (record { fact = tt })
@@ -326,4 +373,8 @@ pub line_fits : (bytes : List ℕ) → AreBytes bytes → FitsLine (line_on byte
 unfolding line_on
 line_fits bytes h =
     fact_of FitsLine (line_on bytes)
-    (fits_if FitsLine (is_digit (byte_at bytes 1)) _ _ (record { fact = variable_row_fits (byte_at bytes 0) (index_on (drop 1 bytes)) (index_fits (drop 1 bytes) (bytes_drop 1 bytes h)) }) (record { fact = word_fits bytes h }))
+    (fits_if FitsLine (is_digit (byte_at bytes 1)) _ _
+    (record {
+      fact = variable_row_fits (byte_at bytes 0) (index_on (drop 1 bytes))
+          (index_fits (drop 1 bytes) (bytes_drop 1 bytes h));
+    }) (record { fact = word_fits bytes h }))

@@ -1,11 +1,14 @@
 -- The open braces of a text that is read.
-use Rattle.std.proofs.Common.{◌≡◌, ℕ, ◌+◌, ◌≤◌, max, Bool, true, false, ◌||◌, List, [], ◌∷◌, ◌++◌, length, reverse, refl, sym, ◌∙◌, ap, arith, append_assoc, append-nil}
+use Rattle.std.proofs.Common.{◌≡◌, ℕ, ◌+◌, ◌≤◌, max, Bool, true, false, ◌||◌, List, [], ◌∷◌, ◌++◌, length, reverse, refl, sym, ◌∙◌}
+use Rattle.std.proofs.Common.{ap, arith, append_assoc, append-nil}
 use Rattle.loop_tree.specs.declared.tree.Stmt.{Stmt}
 use Rattle.loop_tree.specs.declared.tree.CodeLine.{CodeLine}
 use Rattle.loop_tree.specs.declared.tree.CodeLine.TheVariants as code
 use Rattle.loop_tree.specs.Lines.{flat, flats}
 use Rattle.loop_tree.specs.Program.{depth, depths, leaves, some_leaves}
-use Rattle.loop_tree.proofs.Trees.{flat-If, flat-IfElse, flat-ForUp, flat-ForDown, flat-Forever, depth-If, depth-IfElse, depth-ForUp, depth-ForDown, depth-Forever, leaves-If, leaves-IfElse, leaves-ForUp, leaves-ForDown, leaves-Forever}
+use Rattle.loop_tree.proofs.Trees.{flat-If, flat-IfElse, flat-ForUp, flat-ForDown, flat-Forever, depth-If, depth-IfElse}
+use Rattle.loop_tree.proofs.Trees.{depth-ForUp, depth-ForDown, depth-Forever, leaves-If, leaves-IfElse, leaves-ForUp}
+use Rattle.loop_tree.proofs.Trees.{leaves-ForDown, leaves-Forever}
 use Rattle.loop_tree.proofs.Bodies.{flats-append, some_leaves-append, depths-append}
 use Rattle.loop_text.specs.declared.level.LevelKind.{LevelKind}
 use Rattle.loop_text.specs.declared.level.LevelKind.TheVariants as kind
@@ -54,29 +57,35 @@ abbrev pub closings : List Level → List CodeLine
 closings [] = []
 closings (level ∷ levels) = code.Close ∷ closings levels
 
-pub lines_in-more : (levels : List Level) (body more : List Stmt) → lines_in levels (body ++ more) ≡ lines_in levels body ++ flats more
+pub lines_in-more : (levels : List Level) (body more : List Stmt) → lines_in levels (body ++ more) ≡ lines_in levels body
+    ++ flats more
 lines_in-more [] body more = flats-append body more
-lines_in-more (level ∷ levels) body more = ap (λ ls. lines_in levels level.outer ++ (opening level.kind ++ ls)) (flats-append body more) ∙ simp append_assoc
+lines_in-more (level ∷ levels) body more = ap (λ ls. lines_in levels level.outer ++ (opening level.kind ++ ls))
+    (flats-append body more) ∙ simp append_assoc
 
 flat-closed : (k : LevelKind) (body : List Stmt) → flat (closed k body) ≡ opening k ++ (flats body ++ code.Close ∷ [])
 flat-closed (kind.If a) body = flat-If a body
-flat-closed (kind.Else a first) body = flat-IfElse a first body ∙ ap (λ ls. code.If a ∷ ls) (sym (append_assoc (flats first) (code.Else ∷ []) (flats body ++ code.Close ∷ [])))
+flat-closed (kind.Else a first) body = flat-IfElse a first body
+    ∙ ap (λ ls. code.If a ∷ ls) (sym (append_assoc (flats first) (code.Else ∷ []) (flats body ++ code.Close ∷ [])))
 flat-closed (kind.ForUp k bound) body = flat-ForUp k bound body
 flat-closed (kind.ForDown k bound) body = flat-ForDown k bound body
 flat-closed kind.Forever body = flat-Forever body
 
 -- a brace is closed
-pub lines_in-closed : (level : Level) (levels : List Level) (body : List Stmt) → lines_in levels (level.outer ++ closed level.kind body ∷ []) ≡ lines_in (level ∷ levels) body ++ code.Close ∷ []
+pub lines_in-closed : (level : Level) (levels : List Level) (body : List Stmt) →
+    lines_in levels (level.outer ++ closed level.kind body ∷ []) ≡ lines_in (level ∷ levels) body ++ code.Close ∷ []
 lines_in-closed level levels body =
     lines_in-more levels level.outer (closed level.kind body ∷ [])
     ∙ (ap (λ ls. lines_in levels level.outer ++ (ls ++ [])) (flat-closed level.kind body) ∙ simp (append_assoc, append-nil))
 
 -- all are closed
-pub flats-close_all : (levels : List Level) (body : List Stmt) → flats (close_all levels body) ≡ lines_in levels body ++ closings levels
+pub flats-close_all : (levels : List Level) (body : List Stmt) → flats (close_all levels body) ≡ lines_in levels body
+    ++ closings levels
 flats-close_all [] body = sym (append-nil (flats body))
 flats-close_all (level ∷ levels) body =
     flats-close_all levels (level.outer ++ closed level.kind body ∷ [])
-    ∙ (ap (λ ls. ls ++ closings levels) (lines_in-closed level levels body) ∙ append_assoc (lines_in (level ∷ levels) body) (code.Close ∷ []) (closings levels))
+    ∙ (ap (λ ls. ls ++ closings levels) (lines_in-closed level levels body)
+    ∙ append_assoc (lines_in (level ∷ levels) body) (code.Close ∷ []) (closings levels))
 
 -- ---- breaks outside of loops
 
@@ -98,13 +107,18 @@ leaves-closed (kind.ForUp k bound) body = leaves-ForUp k bound body
 leaves-closed (kind.ForDown k bound) body = leaves-ForDown k bound body
 leaves-closed kind.Forever body = leaves-Forever body
 
-pub leaks-closed : (level : Level) (levels : List Level) (body : List Stmt) → leaks levels (some_leaves (level.outer ++ closed level.kind body ∷ [])) ≡ leaks (level ∷ levels) (some_leaves body)
+pub leaks-closed : (level : Level) (levels : List Level) (body : List Stmt) →
+    leaks levels (some_leaves (level.outer ++ closed level.kind body ∷ [])) ≡ leaks (level ∷ levels) (some_leaves body)
 leaks-closed level levels body =
-    ap (leaks levels) (some_leaves-append level.outer (closed level.kind body ∷ []) ∙ ap (λ b. some_leaves level.outer || b) (or_false (leaves (closed level.kind body)) ∙ leaves-closed level.kind body))
+    ap (leaks levels)
+    (some_leaves-append level.outer (closed level.kind body ∷ [])
+    ∙ ap (λ b. some_leaves level.outer || b) (or_false (leaves (closed level.kind body)) ∙ leaves-closed level.kind body))
 
-pub some_leaves-close_all : (levels : List Level) (body : List Stmt) → some_leaves (close_all levels body) ≡ leaks levels (some_leaves body)
+pub some_leaves-close_all : (levels : List Level) (body : List Stmt) → some_leaves (close_all levels body)
+    ≡ leaks levels (some_leaves body)
 some_leaves-close_all [] body = refl
-some_leaves-close_all (level ∷ levels) body = some_leaves-close_all levels (level.outer ++ closed level.kind body ∷ []) ∙ leaks-closed level levels body
+some_leaves-close_all (level ∷ levels) body = some_leaves-close_all levels (level.outer ++ closed level.kind body ∷ [])
+    ∙ leaks-closed level levels body
 
 loop_leaves : (k : LevelKind) (b c : Bool) → is_loop k ≡ true → leaves_kind k b ≡ leaves_kind k c
 loop_leaves (kind.If a) b c e = absurd cc
@@ -113,9 +127,11 @@ loop_leaves (kind.ForUp k bound) b c e = refl
 loop_leaves (kind.ForDown k bound) b c e = refl
 loop_leaves kind.Forever b c e = refl
 
-leaks_by : (level : Level) (levels : List Level) (b c d : Bool) → is_loop level.kind ≡ d → (d || in_loop levels) ≡ true → ((x y : Bool) → in_loop levels ≡ true → leaks levels x ≡ leaks levels y) → leaks (level ∷ levels) b ≡ leaks (level ∷ levels) c
+leaks_by : (level : Level) (levels : List Level) (b c d : Bool) → is_loop level.kind ≡ d → (d || in_loop levels) ≡ true →
+    ((x y : Bool) → in_loop levels ≡ true → leaks levels x ≡ leaks levels y) → leaks (level ∷ levels) b ≡ leaks (level ∷ levels) c
 leaks_by level levels b c true e h more = ap (λ x. leaks levels (some_leaves level.outer || x)) (loop_leaves level.kind b c e)
-leaks_by level levels b c false e h more = more (some_leaves level.outer || leaves_kind level.kind b) (some_leaves level.outer || leaves_kind level.kind c) h
+leaks_by level levels b c false e h more = more (some_leaves level.outer || leaves_kind level.kind b)
+    (some_leaves level.outer || leaves_kind level.kind c) h
 
 -- in a loop nothing leaks
 pub leaks-in_loop : (levels : List Level) (b c : Bool) → in_loop levels ≡ true → leaks levels b ≡ leaks levels c
@@ -142,14 +158,17 @@ depth-closed (kind.ForUp k bound) body = depth-ForUp k bound body
 depth-closed (kind.ForDown k bound) body = depth-ForDown k bound body
 depth-closed kind.Forever body = depth-Forever body
 
-pub deep-closed : (level : Level) (levels : List Level) (body : List Stmt) → deep levels (depths (level.outer ++ closed level.kind body ∷ [])) ≡ deep (level ∷ levels) (depths body)
+pub deep-closed : (level : Level) (levels : List Level) (body : List Stmt) →
+    deep levels (depths (level.outer ++ closed level.kind body ∷ [])) ≡ deep (level ∷ levels) (depths body)
 deep-closed level levels body =
-    let one : max (depth (closed level.kind body)) 0 ≡ kind_depth level.kind (depths body) = omega (arith, depth-closed level.kind body) in
+    let one : max (depth (closed level.kind body)) 0 ≡ kind_depth level.kind (depths body) =
+    omega (arith, depth-closed level.kind body) in
     ap (deep levels) (depths-append level.outer (closed level.kind body ∷ []) ∙ ap (max (depths level.outer)) one)
 
 pub depths-close_all : (levels : List Level) (body : List Stmt) → depths (close_all levels body) ≡ deep levels (depths body)
 depths-close_all [] body = refl
-depths-close_all (level ∷ levels) body = depths-close_all levels (level.outer ++ closed level.kind body ∷ []) ∙ deep-closed level levels body
+depths-close_all (level ∷ levels) body = depths-close_all levels (level.outer ++ closed level.kind body ∷ [])
+    ∙ deep-closed level levels body
 
 kind_depth-max : (k : LevelKind) (d e : ℕ) → kind_depth k (max d e) ≡ max (kind_depth k d) (e + 1)
 kind_depth-max (kind.If a) d e = omega arith
@@ -161,6 +180,7 @@ kind_depth-max kind.Forever d e = omega arith
 pub deep-max : (levels : List Level) (d e : ℕ) → deep levels (max d e) ≤ max (deep levels d) (e + length levels)
 deep-max [] d e = omega arith
 deep-max (level ∷ levels) d e =
-    let same : max (depths level.outer) (kind_depth level.kind (max d e)) ≡ max (max (depths level.outer) (kind_depth level.kind d)) (e + 1) = omega (arith, kind_depth-max level.kind d e) in
+    let same : max (depths level.outer) (kind_depth level.kind (max d e))
+    ≡ max (max (depths level.outer) (kind_depth level.kind d)) (e + 1) = omega (arith, kind_depth-max level.kind d e) in
     let inner = deep-max levels (max (depths level.outer) (kind_depth level.kind d)) (e + 1) in
     omega (arith, ap (deep levels) same, inner)

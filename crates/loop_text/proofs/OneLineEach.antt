@@ -1,5 +1,6 @@
 -- No line of a text has a line feed in it.
-use Rattle.std.proofs.Common.{◌≡◌, ℕ, suc, pos, negsuc, ◌+◌, ◌%◌, ◌^◌, ◌<◌, ◌==◌, Bool, true, false, not, ◌&&◌, if◌then◌else◌, List, [], ◌∷◌, ◌++◌, length, flat_map, codes, decimal, refl, ◌∙◌, ap, arith}
+use Rattle.std.proofs.Common.{◌≡◌, ℕ, suc, pos, negsuc, ◌+◌, ◌%◌, ◌^◌, ◌<◌, ◌==◌, Bool, true, false, not, ◌&&◌, if◌then◌else◌, List}
+use Rattle.std.proofs.Common.{[], ◌∷◌, ◌++◌, length, flat_map, codes, decimal, refl, ◌∙◌, ap, arith}
 use Rattle.std.specs.List.{AllByRecursion}
 use Rattle.std.proofs.lemmas.Fmt.{decimal_by_steps}
 use Rattle.std.proofs.lemmas.List.Folds.{list_all-append}
@@ -33,8 +34,11 @@ use Rattle.loop_tree.specs.declared.row.Row.{Row}
 use Rattle.loop_tree.specs.declared.row.Row.TheVariants as row
 use Rattle.loop_tree.specs.declared.tree.CodeLine.{CodeLine}
 use Rattle.loop_tree.specs.declared.tree.CodeLine.TheVariants as code
-use Rattle.loop_tree.specs.Text.{atom_text, is_plain, octal, byte_text, bytes_text, text_atom_text, reference_text, argument_text, listed_by, listed, operator_text, int_value_text, text_value_text, block_row_text, control_row_text, record_row_text, row_text, spell, letter_text, parameters_text, function_head}
-use Rattle.loop_tree.specs.Program.{FitsAtom, FitsText, FitsReference, FitsArgument, FitsInt, FitsWords, FitsBlock, FitsControl, FitsRecord, FitsRow, FitsLine}
+use Rattle.loop_tree.specs.Text.{atom_text, is_plain, octal, byte_text, bytes_text, text_atom_text, reference_text, argument_text}
+use Rattle.loop_tree.specs.Text.{listed_by, listed, operator_text, int_value_text, text_value_text, block_row_text}
+use Rattle.loop_tree.specs.Text.{control_row_text, record_row_text, row_text, spell, letter_text, parameters_text, function_head}
+use Rattle.loop_tree.specs.Program.{FitsAtom, FitsText, FitsReference, FitsArgument, FitsInt, FitsWords, FitsBlock, FitsControl}
+use Rattle.loop_tree.specs.Program.{FitsRecord, FitsRow, FitsLine}
 use Rattle.loop_text.specs.Refused.{is_one_line}
 
 -- one piece and another
@@ -45,7 +49,8 @@ digit_one : (d : ℕ) → d < 10 → is_one_line ((48 + d) ∷ []) ≡ true
 digit_one d h = grind (arith, nat_tests)
 
 number : (n : ℕ) → n < 2 ^ 64 → is_one_line (decimal n) ≡ true
-number n small = decimal_by_steps (λ n ds. is_one_line ds ≡ true) (λ n h. digit_one n h) (λ n ds h k. both ds ((48 + n % 10) ∷ []) k (digit_one (n % 10) (omega arith))) n small
+number n small = decimal_by_steps (λ n ds. is_one_line ds ≡ true) (λ n h. digit_one n h)
+    (λ n ds h k. both ds ((48 + n % 10) ∷ []) k (digit_one (n % 10) (omega arith))) n small
 
 index : (n : ℕ) → n < 2 ^ 32 → is_one_line (decimal n) ≡ true
 index n small = number n (omega arith)
@@ -83,13 +88,17 @@ argument_one (argument.Int a) h = atom_one a h
 argument_one (argument.Text t) h = text_one t h
 argument_one (argument.Block r) h = reference_one r h
 
-others_one : (arguments : List Argument) → AllByRecursion FitsArgument arguments → is_one_line (flat_map (λ y. codes ", " ++ argument_text y) arguments) ≡ true
+others_one : (arguments : List Argument) → AllByRecursion FitsArgument arguments →
+    is_one_line (flat_map (λ y. codes ", " ++ argument_text y) arguments) ≡ true
 others_one [] h = refl
-others_one (a ∷ more) h = both (argument_text a) (flat_map (λ y. codes ", " ++ argument_text y) more) (argument_one a h.0) (others_one more h.1)
+others_one (a ∷ more) h = both (argument_text a) (flat_map (λ y. codes ", " ++ argument_text y) more) (argument_one a h.0)
+    (others_one more h.1)
 
-arguments_one : (arguments : List Argument) → AllByRecursion FitsArgument arguments → is_one_line (listed_by argument_text arguments) ≡ true
+arguments_one : (arguments : List Argument) → AllByRecursion FitsArgument arguments →
+    is_one_line (listed_by argument_text arguments) ≡ true
 arguments_one [] h = refl
-arguments_one (a ∷ more) h = both (argument_text a) (flat_map (λ y. codes ", " ++ argument_text y) more) (argument_one a h.0) (others_one more h.1)
+arguments_one (a ∷ more) h = both (argument_text a) (flat_map (λ y. codes ", " ++ argument_text y) more) (argument_one a h.0)
+    (others_one more h.1)
 
 operator_one : (op : Operator) → is_one_line (operator_text op) ≡ true
 operator_one operator.Add = refl
@@ -108,18 +117,22 @@ operator_one operator.Or = refl
 one_argument : (a : List ℕ) → is_one_line a ≡ true → is_one_line (a ++ 41 ∷ []) ≡ true
 one_argument a h = both a (41 ∷ []) h refl
 
-two_arguments : (a b : List ℕ) → is_one_line a ≡ true → is_one_line b ≡ true → is_one_line ((a ++ 44 ∷ 32 ∷ (b ++ [])) ++ 41 ∷ []) ≡ true
+two_arguments : (a b : List ℕ) → is_one_line a ≡ true → is_one_line b ≡ true → is_one_line ((a ++ 44 ∷ 32 ∷ (b ++ [])) ++ 41 ∷ [])
+    ≡ true
 two_arguments a b h k = both (a ++ 44 ∷ 32 ∷ (b ++ [])) (41 ∷ []) (both a (44 ∷ 32 ∷ (b ++ [])) h (both b [] k refl)) refl
 
-three_arguments : (a b c : List ℕ) → is_one_line a ≡ true → is_one_line b ≡ true → is_one_line c ≡ true → is_one_line ((a ++ 44 ∷ 32 ∷ (b ++ 44 ∷ 32 ∷ (c ++ []))) ++ 41 ∷ []) ≡ true
-three_arguments a b c h k l = both (a ++ 44 ∷ 32 ∷ (b ++ 44 ∷ 32 ∷ (c ++ []))) (41 ∷ []) (both a (44 ∷ 32 ∷ (b ++ 44 ∷ 32 ∷ (c ++ []))) h (both b (44 ∷ 32 ∷ (c ++ [])) k (both c [] l refl))) refl
+three_arguments : (a b c : List ℕ) → is_one_line a ≡ true → is_one_line b ≡ true → is_one_line c ≡ true →
+    is_one_line ((a ++ 44 ∷ 32 ∷ (b ++ 44 ∷ 32 ∷ (c ++ []))) ++ 41 ∷ []) ≡ true
+three_arguments a b c h k l = both (a ++ 44 ∷ 32 ∷ (b ++ 44 ∷ 32 ∷ (c ++ []))) (41 ∷ [])
+    (both a (44 ∷ 32 ∷ (b ++ 44 ∷ 32 ∷ (c ++ []))) h (both b (44 ∷ 32 ∷ (c ++ [])) k (both c [] l refl))) refl
 
 cell_one : (n a : List ℕ) → is_one_line n ≡ true → is_one_line a ≡ true → is_one_line (n ++ 91 ∷ (a ++ 93 ∷ [])) ≡ true
 cell_one n a h k = both n (91 ∷ (a ++ 93 ∷ [])) h (both a (93 ∷ []) k refl)
 
 int_one : (v : IntValue) → FitsInt v → is_one_line (int_value_text v) ≡ true
 int_one (int.Atom a) h = atom_one a h
-int_one (int.Operation a op b) h = both (atom_text a) (32 ∷ (operator_text op ++ 32 ∷ atom_text b)) (atom_one a h.0) (both (operator_text op) (32 ∷ atom_text b) (operator_one op) (atom_one b h.1))
+int_one (int.Operation a op b) h = both (atom_text a) (32 ∷ (operator_text op ++ 32 ∷ atom_text b)) (atom_one a h.0)
+    (both (operator_text op) (32 ∷ atom_text b) (operator_one op) (atom_one b h.1))
 int_one (int.Cell n a) h = cell_one (decimal n) (atom_text a) (index n h.0) (atom_one a h.1)
 int_one (int.Wrap a) h = one_argument (atom_text a) (atom_one a h)
 int_one (int.Power a b) h = two_arguments (atom_text a) (atom_text b) (atom_one a h.0) (atom_one b h.1)
@@ -139,8 +152,10 @@ words_one : (v : TextValue) → FitsWords v → is_one_line (text_value_text v) 
 words_one (words.Atom t) h = text_one t h
 words_one (words.Cell n a) h = cell_one (decimal n) (atom_text a) (index n h.0) (atom_one a h.1)
 words_one (words.Join t u) h = two_arguments (text_atom_text t) (text_atom_text u) (text_one t h.0) (text_one u h.1)
-words_one (words.Part t a b) h = three_arguments (text_atom_text t) (atom_text a) (atom_text b) (text_one t h.0) (atom_one a h.1) (atom_one b h.2)
-words_one (words.Over t a u) h = three_arguments (text_atom_text t) (atom_text a) (text_atom_text u) (text_one t h.0) (atom_one a h.1) (text_one u h.2)
+words_one (words.Part t a b) h = three_arguments (text_atom_text t) (atom_text a) (atom_text b) (text_one t h.0) (atom_one a h.1)
+    (atom_one b h.2)
+words_one (words.Over t a u) h = three_arguments (text_atom_text t) (atom_text a) (text_atom_text u) (text_one t h.0)
+    (atom_one a h.1) (text_one u h.2)
 words_one (words.Fit t a) h = two_arguments (text_atom_text t) (atom_text a) (text_one t h.0) (atom_one a h.1)
 words_one (words.Trim t) h = one_argument (text_atom_text t) (text_one t h)
 words_one (words.Left t) h = one_argument (text_atom_text t) (text_one t h)
@@ -151,17 +166,21 @@ words_one (words.Char a) h = one_argument (atom_text a) (atom_one a h)
 set_one : (n value : List ℕ) → is_one_line n ≡ true → is_one_line value ≡ true → is_one_line (n ++ 32 ∷ 61 ∷ 32 ∷ value) ≡ true
 set_one n value h k = both n (32 ∷ 61 ∷ 32 ∷ value) h k
 
-store_one : (n i value : List ℕ) → is_one_line n ≡ true → is_one_line i ≡ true → is_one_line value ≡ true → is_one_line (n ++ 91 ∷ (i ++ 93 ∷ 32 ∷ 61 ∷ 32 ∷ value)) ≡ true
+store_one : (n i value : List ℕ) → is_one_line n ≡ true → is_one_line i ≡ true → is_one_line value ≡ true →
+    is_one_line (n ++ 91 ∷ (i ++ 93 ∷ 32 ∷ 61 ∷ 32 ∷ value)) ≡ true
 store_one n i value h k l = both n (91 ∷ (i ++ 93 ∷ 32 ∷ 61 ∷ 32 ∷ value)) h (both i (93 ∷ 32 ∷ 61 ∷ 32 ∷ value) k l)
 
 block_one : (r : BlockRow) → FitsBlock r → is_one_line (block_row_text r) ≡ true
-block_one (block.StoreInt n i a) h = store_one (decimal n) (atom_text i) (atom_text a) (index n h.0) (atom_one i h.1) (atom_one a h.2)
-block_one (block.StoreText n i t) h = store_one (decimal n) (atom_text i) (text_atom_text t) (index n h.0) (atom_one i h.1) (text_one t h.2)
+block_one (block.StoreInt n i a) h = store_one (decimal n) (atom_text i) (atom_text a) (index n h.0) (atom_one i h.1)
+    (atom_one a h.2)
+block_one (block.StoreText n i t) h = store_one (decimal n) (atom_text i) (text_atom_text t) (index n h.0) (atom_one i h.1)
+    (text_one t h.2)
 block_one (block.New n a) h = set_one (decimal n) _ (index n h.0) (one_argument (atom_text a) (atom_one a h.1))
 block_one (block.Temp n a) h = set_one (decimal n) _ (index n h.0) (one_argument (atom_text a) (atom_one a h.1))
 block_one (block.Copy n a) h = set_one (decimal n) _ (index n h.0) (one_argument (atom_text a) (atom_one a h.1))
 block_one (block.Mark n a) h = set_one (decimal n) _ (index n h.0) (one_argument (atom_text a) (atom_one a h.1))
-block_one (block.NewText n a b) h = set_one (decimal n) _ (index n h.0) (two_arguments (atom_text a) (atom_text b) (atom_one a h.1) (atom_one b h.2))
+block_one (block.NewText n a b) h = set_one (decimal n) _ (index n h.0)
+    (two_arguments (atom_text a) (atom_text b) (atom_one a h.1) (atom_one b h.2))
 block_one (block.TempText n a) h = set_one (decimal n) _ (index n h.0) (one_argument (atom_text a) (atom_one a h.1))
 block_one (block.CopyText n a) h = set_one (decimal n) _ (index n h.0) (one_argument (atom_text a) (atom_one a h.1))
 block_one (block.SameInts n m) h = set_one (decimal n) (98 ∷ decimal m) (index n h.0) (index m h.1)
@@ -190,7 +209,8 @@ control_one : (r : ControlRow) → FitsControl r → is_one_line (control_row_te
 control_one control.Break h = refl
 control_one control.Continue h = refl
 control_one control.Return h = refl
-control_one (control.Call n arguments) h = both (decimal n) (40 ∷ (listed_by argument_text arguments ++ 41 ∷ [])) (index n h.0) (one_argument (listed_by argument_text arguments) (arguments_one arguments h.1))
+control_one (control.Call n arguments) h = both (decimal n) (40 ∷ (listed_by argument_text arguments ++ 41 ∷ [])) (index n h.0)
+    (one_argument (listed_by argument_text arguments) (arguments_one arguments h.1))
 control_one control.Stop h = refl
 control_one (control.Fault k) h = one_argument (decimal (fault_number k)) (number (fault_number k) (fault_small k))
 control_one (control.At n) h = one_argument (decimal n) (index n h)
@@ -217,14 +237,24 @@ line_one (code.ForUp k bound) h =
     let n = index k h.0 in
     let last : is_one_line (decimal k ++ codes " + 1) {") ≡ true = both (decimal k) (codes " + 1) {") n refl in
     let step : is_one_line (decimal k ++ 32 ∷ 61 ∷ 32 ∷ 107 ∷ (decimal k ++ codes " + 1) {")) ≡ true = both (decimal k) _ n last in
-    let test : is_one_line (atom_text bound ++ 59 ∷ 32 ∷ 107 ∷ (decimal k ++ 32 ∷ 61 ∷ 32 ∷ 107 ∷ (decimal k ++ codes " + 1) {"))) ≡ true = both (atom_text bound) _ (atom_one bound h.1) step in
-    both (decimal k) _ n (both (decimal k) (32 ∷ 60 ∷ 32 ∷ (atom_text bound ++ 59 ∷ 32 ∷ 107 ∷ (decimal k ++ 32 ∷ 61 ∷ 32 ∷ 107 ∷ (decimal k ++ codes " + 1) {")))) n test)
+    let test : is_one_line (atom_text bound ++ 59 ∷ 32 ∷ 107 ∷ (decimal k ++ 32 ∷ 61 ∷ 32 ∷ 107 ∷ (decimal k ++ codes " + 1) {")))
+    ≡ true = both (atom_text bound) _ (atom_one bound h.1) step in
+    both (decimal k) _ n
+    (both (decimal k)
+    (32 ∷ 60 ∷ 32 ∷ (atom_text bound ++ 59 ∷ 32 ∷ 107 ∷ (decimal k ++ 32 ∷ 61 ∷ 32 ∷ 107 ∷ (decimal k ++ codes " + 1) {")))) n
+    test)
 line_one (code.ForDown k bound) h =
     let n = index k h.0 in
     let last : is_one_line (decimal k ++ codes " - 1) {") ≡ true = both (decimal k) (codes " - 1) {") n refl in
     let step : is_one_line (decimal k ++ 32 ∷ 61 ∷ 32 ∷ 107 ∷ (decimal k ++ codes " - 1) {")) ≡ true = both (decimal k) _ n last in
-    let test : is_one_line (decimal k ++ 32 ∷ 62 ∷ 61 ∷ 32 ∷ 48 ∷ 59 ∷ 32 ∷ 107 ∷ (decimal k ++ 32 ∷ 61 ∷ 32 ∷ 107 ∷ (decimal k ++ codes " - 1) {"))) ≡ true = both (decimal k) _ n step in
-    both (decimal k) _ n (both (atom_text bound) (32 ∷ 45 ∷ 32 ∷ 49 ∷ 59 ∷ 32 ∷ 107 ∷ (decimal k ++ 32 ∷ 62 ∷ 61 ∷ 32 ∷ 48 ∷ 59 ∷ 32 ∷ 107 ∷ (decimal k ++ 32 ∷ 61 ∷ 32 ∷ 107 ∷ (decimal k ++ codes " - 1) {")))) (atom_one bound h.1) test)
+    let test : is_one_line
+    (decimal k ++ 32 ∷ 62 ∷ 61 ∷ 32 ∷ 48 ∷ 59 ∷ 32 ∷ 107 ∷ (decimal k ++ 32 ∷ 61 ∷ 32 ∷ 107 ∷ (decimal k ++ codes " - 1) {")))
+    ≡ true = both (decimal k) _ n step in
+    both (decimal k) _ n
+    (both (atom_text bound)
+    (32 ∷ 45 ∷ 32 ∷ 49 ∷ 59 ∷ 32 ∷ 107
+    ∷ (decimal k ++ 32 ∷ 62 ∷ 61 ∷ 32 ∷ 48 ∷ 59 ∷ 32 ∷ 107
+    ∷ (decimal k ++ 32 ∷ 61 ∷ 32 ∷ 107 ∷ (decimal k ++ codes " - 1) {")))) (atom_one bound h.1) test)
 line_one code.Forever h = refl
 line_one code.Close h = refl
 
@@ -236,13 +266,17 @@ letter_one letter.Text j h = number j h
 letter_one letter.Ints j h = number j h
 letter_one letter.Texts j h = number j h
 
-other_letters : (j : ℕ) (ps : List Letter) → j + length ps < 2 ^ 64 → is_one_line (flat_map (λ y. codes ", " ++ y) (parameters_text j ps)) ≡ true
+other_letters : (j : ℕ) (ps : List Letter) → j + length ps < 2 ^ 64 →
+    is_one_line (flat_map (λ y. codes ", " ++ y) (parameters_text j ps)) ≡ true
 other_letters j [] h = refl
-other_letters j (p ∷ ps) h = both (letter_text p ++ decimal j) (flat_map (λ y. codes ", " ++ y) (parameters_text (j + 1) ps)) (letter_one p j (omega arith)) (other_letters (j + 1) ps (omega arith))
+other_letters j (p ∷ ps) h = both (letter_text p ++ decimal j) (flat_map (λ y. codes ", " ++ y) (parameters_text (j + 1) ps))
+    (letter_one p j (omega arith)) (other_letters (j + 1) ps (omega arith))
 
 letters_one : (ps : List Letter) → length ps < 2 ^ 64 → is_one_line (listed (parameters_text 0 ps)) ≡ true
 letters_one [] h = refl
-letters_one (p ∷ ps) h = both (letter_text p ++ decimal 0) (flat_map (λ y. codes ", " ++ y) (parameters_text 1 ps)) (letter_one p 0 (omega arith)) (other_letters 1 ps (omega arith))
+letters_one (p ∷ ps) h = both (letter_text p ++ decimal 0) (flat_map (λ y. codes ", " ++ y) (parameters_text 1 ps))
+    (letter_one p 0 (omega arith)) (other_letters 1 ps (omega arith))
 
 pub head_one : (n : ℕ) (ps : List Letter) → n < 2 ^ 64 → length ps < 2 ^ 64 → is_one_line (function_head n ps) ≡ true
-head_one n ps small few = both (decimal n) (40 ∷ (listed (parameters_text 0 ps) ++ codes ") {")) (number n small) (both (listed (parameters_text 0 ps)) (codes ") {") (letters_one ps few) refl)
+head_one n ps small few = both (decimal n) (40 ∷ (listed (parameters_text 0 ps) ++ codes ") {")) (number n small)
+    (both (listed (parameters_text 0 ps)) (codes ") {") (letters_one ps few) refl)

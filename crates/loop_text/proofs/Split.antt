@@ -1,5 +1,6 @@
 -- A text is cut into its lines in one way.
-use Rattle.std.proofs.Common.{◌≡◌, ℕ, zero, suc, ◌+◌, ◌<◌, ◌^◌, ◌==◌, Bool, true, false, not, ◌&&◌, if◌then◌else◌, List, [], ◌∷◌, ◌++◌, map, length, get_or, take, drop, refl, sym, ◌∙◌, ap, arith, append_assoc, eqb-true}
+use Rattle.std.proofs.Common.{◌≡◌, ℕ, zero, suc, ◌+◌, ◌<◌, ◌^◌, ◌==◌, Bool, true, false, not, ◌&&◌, if◌then◌else◌, List, [], ◌∷◌}
+use Rattle.std.proofs.Common.{◌++◌, map, length, get_or, take, drop, refl, sym, ◌∙◌, ap, arith, append_assoc, eqb-true}
 use Rattle.std.specs.List.{AllByRecursion}
 use Rattle.loop_tree.specs.declared.tree.CodeLine.{CodeLine}
 use Rattle.loop_tree.specs.declared.tree.CodeLine.TheVariants as code
@@ -32,7 +33,8 @@ not_true : (b : Bool) → not b ≡ true → b ≡ false
 not_true true e = absurd cc
 not_true false e = refl
 
-pub line_first : (line rest : List ℕ) → is_one_line line ≡ true → split_of (line ++ 10 ∷ rest) ≡ split (line ∷ (split_of rest).lines) ((split_of rest).tail)
+pub line_first : (line rest : List ℕ) → is_one_line line ≡ true → split_of (line ++ 10 ∷ rest)
+    ≡ split (line ∷ (split_of rest).lines) ((split_of rest).tail)
 line_first [] rest e = refl
 line_first (c ∷ cs) rest e =
     let differs : (c == 10) ≡ false = not_true (c == 10) (and_left (not (c == 10)) (is_one_line cs) e) in
@@ -44,7 +46,8 @@ pub only_tail : (bytes : List ℕ) → is_one_line bytes ≡ true → split_of b
 only_tail [] e = refl
 only_tail (c ∷ cs) e =
     let differs : (c == 10) ≡ false = not_true (c == 10) (and_left (not (c == 10)) (is_one_line cs) e) in
-    no_feed c cs differs ∙ ap (λ (p : Split). byte_onto c p.lines p.tail) (only_tail cs (and_right (not (c == 10)) (is_one_line cs) e))
+    no_feed c cs differs ∙ ap (λ (p : Split). byte_onto c p.lines p.tail)
+    (only_tail cs (and_right (not (c == 10)) (is_one_line cs) e))
 
 -- ---- the lines of a text
 
@@ -55,7 +58,8 @@ pub lines_again : (lines : List (List ℕ)) → Each lines → split_of (with_li
 lines_again [] each = refl
 lines_again (line ∷ lines) each =
     ap split_of (append_assoc line (10 ∷ []) (with_line_feeds lines))
-    ∙ (line_first line (with_line_feeds lines) each.0 ∙ ap (λ (p : Split). split (line ∷ p.lines) p.tail) (lines_again lines each.1))
+    ∙ (line_first line (with_line_feeds lines) each.0 ∙ ap (λ (p : Split). split (line ∷ p.lines) p.tail)
+    (lines_again lines each.1))
 
 each_append : (xs ys : List (List ℕ)) → Each xs → Each ys → Each (xs ++ ys)
 each_append [] ys h k = k
@@ -70,11 +74,13 @@ fits_close [] h = (tt, tt)
 fits_close (line ∷ lines) h = (h.0, fits_close lines h.1)
 
 each_function : (n : ℕ) (f : Function) → n < 2 ^ 64 → IsFunction f → Each (function_lines n f)
-each_function n f small is = (head_one n f.parameters small (omega (arith, is.parameters)), each_code (lines_of f) (fits_close (flats f.body) is.numbers))
+each_function n f small is =
+    (head_one n f.parameters small (omega (arith, is.parameters)), each_code (lines_of f) (fits_close (flats f.body) is.numbers))
 
 each_functions : (n : ℕ) (fs : List Function) → n + length fs < 2 ^ 64 → AllByRecursion IsFunction fs → Each (functions_lines n fs)
 each_functions n [] small is = tt
-each_functions n (f ∷ fs) small is = each_append (function_lines n f) (functions_lines (n + 1) fs) (each_function n f (omega arith) is.0) (each_functions (n + 1) fs (omega arith) is.1)
+each_functions n (f ∷ fs) small is = each_append (function_lines n f) (functions_lines (n + 1) fs)
+    (each_function n f (omega arith) is.0) (each_functions (n + 1) fs (omega arith) is.1)
 
 pub text_again : (fs : List Function) → IsProgram fs → split_of (text_of_program fs) ≡ split (text_lines fs) []
 text_again fs is = lines_again (text_lines fs) (refl, each_functions 0 fs (omega (arith, is.count)) is.each)
@@ -85,12 +91,14 @@ split_of_text bytes fs is = ap split_of is.text ∙ text_again fs is.program
 
 -- ---- the pieces join again
 
-joined_byte : (c : ℕ) (lines : List (List ℕ)) (tail : List ℕ) → with_line_feeds ((byte_onto c lines tail).lines) ++ (byte_onto c lines tail).tail ≡ c ∷ (with_line_feeds lines ++ tail)
+joined_byte : (c : ℕ) (lines : List (List ℕ)) (tail : List ℕ) → with_line_feeds ((byte_onto c lines tail).lines)
+    ++ (byte_onto c lines tail).tail ≡ c ∷ (with_line_feeds lines ++ tail)
 joined_byte c [] tail = refl
 joined_byte c (line ∷ lines) tail = refl
 
 joined_by : (c : ℕ) (cs : List ℕ) (b : Bool) → (c == 10) ≡ b → cs ≡ with_line_feeds ((split_of cs).lines) ++ (split_of cs).tail →
-    c ∷ cs ≡ with_line_feeds ((if b then feed_onto (split_of cs) else byte_onto c ((split_of cs).lines) ((split_of cs).tail)).lines) ++ (if b then feed_onto (split_of cs) else byte_onto c ((split_of cs).lines) ((split_of cs).tail)).tail
+    c ∷ cs ≡ with_line_feeds ((if b then feed_onto (split_of cs) else byte_onto c ((split_of cs).lines) ((split_of cs).tail)).lines)
+    ++ (if b then feed_onto (split_of cs) else byte_onto c ((split_of cs).lines) ((split_of cs).tail)).tail
 joined_by c cs true e h = let same : c ≡ 10 = eqb-true c 10 e in ap (λ x. x ∷ cs) same ∙ ap (λ bs. 10 ∷ bs) h
 joined_by c cs false e h = ap (λ bs. c ∷ bs) h ∙ sym (joined_byte c ((split_of cs).lines) ((split_of cs).tail))
 
@@ -105,7 +113,8 @@ bytes_take zero bytes h = tt
 bytes_take (suc n) [] h = tt
 bytes_take (suc n) (c ∷ cs) h = (h.0, bytes_take n cs h.1)
 
-pub at_feed : (bytes : List ℕ) (place : ℕ) → place < length bytes → get_or bytes place 0 ≡ 10 → bytes ≡ take place bytes ++ 10 ∷ drop (suc place) bytes
+pub at_feed : (bytes : List ℕ) (place : ℕ) → place < length bytes → get_or bytes place 0 ≡ 10 → bytes ≡ take place bytes ++ 10
+    ∷ drop (suc place) bytes
 at_feed [] place h e = absurd (omega arith)
 at_feed (c ∷ cs) zero h e = ap (λ x. x ∷ cs) e
 at_feed (c ∷ cs) (suc place) h e = ap (λ bs. c ∷ bs) (at_feed cs place (omega arith) e)

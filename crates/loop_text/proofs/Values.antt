@@ -10,7 +10,10 @@ use Rattle.loop_tree.specs.declared.row.TextValue.{TextValue}
 use Rattle.loop_tree.specs.declared.row.TextValue.TheVariants as words
 use Rattle.loop_tree.specs.Text.{atom_text, text_atom_text, reference_text, operator_text, int_value_text, text_value_text}
 use Rattle.loop_tree.specs.Program.{FitsAtom, FitsInt, FitsWords}
-use Rattle.loop_text.specs.Guess.{AtomOn, TextOn, ReferenceOn, atom_on, text_on, reference_on, index_on, operator_on, operation_on, int_cell_on, int_power_on, int_xor_on, int_index_on, int_compare_on, int_plain_on, int_call_on, int_value_on, text_cell_on, text_join_on, text_part_on, text_over_on, text_fit_on, text_call_on, text_value_on}
+use Rattle.loop_text.specs.Guess.{AtomOn, TextOn, ReferenceOn, atom_on, text_on, reference_on, index_on, operator_on, operation_on}
+use Rattle.loop_text.specs.Guess.{int_cell_on, int_power_on, int_xor_on, int_index_on, int_compare_on, int_plain_on, int_call_on}
+use Rattle.loop_text.specs.Guess.{int_value_on, text_cell_on, text_join_on, text_part_on, text_over_on, text_fit_on, text_call_on}
+use Rattle.loop_text.specs.Guess.{text_value_on}
 use Rattle.loop_text.proofs.Numbers.{index_again, atom_again}
 use Rattle.loop_text.proofs.Texts.{text_again, reference_again, atom_begins, text_begins}
 
@@ -36,13 +39,16 @@ three_is a b c = simp (append_assoc, append-nil)
 
 -- ---- integers
 
-operation_is : (a : List ℕ) (op : List ℕ) (b : List ℕ) → (a ++ 32 ∷ (op ++ 32 ∷ b)) ++ 59 ∷ [] ≡ a ++ 32 ∷ (op ++ 32 ∷ (b ++ 59 ∷ []))
+operation_is : (a : List ℕ) (op : List ℕ) (b : List ℕ) → (a ++ 32 ∷ (op ++ 32 ∷ b)) ++ 59 ∷ [] ≡ a ++ 32
+    ∷ (op ++ 32 ∷ (b ++ 59 ∷ []))
 operation_is a op b = simp append_assoc
 
-second_operand : (a : Atom) (op : Operator) (b : Atom) → FitsAtom b → int.Operation a op (atom_on (atom_text b ++ 59 ∷ [])).value ≡ int.Operation a op b
+second_operand : (a : Atom) (op : Operator) (b : Atom) → FitsAtom b → int.Operation a op (atom_on (atom_text b ++ 59 ∷ [])).value
+    ≡ int.Operation a op b
 second_operand a op b h = ap (λ (x : AtomOn). int.Operation a op x.value) (atom_again b (59 ∷ []) h refl)
 
-operation_again : (a : Atom) (op : Operator) (b : Atom) → FitsAtom b → operation_on (record { value = a; rest = 32 ∷ (operator_text op ++ 32 ∷ (atom_text b ++ 59 ∷ [])) }) ≡ int.Operation a op b
+operation_again : (a : Atom) (op : Operator) (b : Atom) → FitsAtom b →
+    operation_on (record { value = a; rest = 32 ∷ (operator_text op ++ 32 ∷ (atom_text b ++ 59 ∷ [])) }) ≡ int.Operation a op b
 unfolding operation_on operator_on
 operation_again a operator.Add b h = second_operand a operator.Add b h
 operation_again a operator.Subtract b h = second_operand a operator.Subtract b h
@@ -64,7 +70,8 @@ alone : (a : Atom) → operation_on (record { value = a; rest = semicolon }) ≡
 unfolding operation_on
 alone a = refl
 
-atom_first : (a : Atom) (rest : List ℕ) → FitsAtom a → (is : IntValue) → operation_on (atom_on (atom_text a ++ rest)) ≡ is → int_value_on (atom_text a ++ rest) ≡ is
+atom_first : (a : Atom) (rest : List ℕ) → FitsAtom a → (is : IntValue) → operation_on (atom_on (atom_text a ++ rest)) ≡ is →
+    int_value_on (atom_text a ++ rest) ≡ is
 unfolding int_value_on
 atom_first a rest h is e = rw (atom_begins a rest h) e
 
@@ -80,32 +87,45 @@ int_value_again (int.Operation a op b) h =
     ∙ atom_first a rest h.0 (int.Operation a op b) (ap operation_on (atom_again a rest h.0 refl) ∙ operation_again a op b h.1)
 int_value_again (int.Cell n a) h =
     ap (λ bs. int_cell_on (index_on bs)) (cell_is (decimal n) (atom_text a))
-    ∙ (ap int_cell_on (index_again n (91 ∷ (atom_text a ++ 93 ∷ semicolon)) h.0 refl) ∙ ap (λ (x : AtomOn). int.Cell n x.value) (atom_again a (93 ∷ semicolon) h.1 refl))
-int_value_again (int.Wrap a) h = ap (λ bs. int.Wrap (atom_on bs).value) (one_is (atom_text a)) ∙ ap (λ (x : AtomOn). int.Wrap x.value) (atom_again a end_of_call h refl)
+    ∙ (ap int_cell_on (index_again n (91 ∷ (atom_text a ++ 93 ∷ semicolon)) h.0 refl)
+    ∙ ap (λ (x : AtomOn). int.Cell n x.value) (atom_again a (93 ∷ semicolon) h.1 refl))
+int_value_again (int.Wrap a) h = ap (λ bs. int.Wrap (atom_on bs).value) (one_is (atom_text a))
+    ∙ ap (λ (x : AtomOn). int.Wrap x.value) (atom_again a end_of_call h refl)
 int_value_again (int.Power a b) h =
     ap (λ bs. int_power_on (atom_on bs)) (two_is (atom_text a) (atom_text b))
-    ∙ (ap int_power_on (atom_again a (44 ∷ 32 ∷ (atom_text b ++ end_of_call)) h.0 refl) ∙ ap (λ (x : AtomOn). int.Power a x.value) (atom_again b end_of_call h.1 refl))
+    ∙ (ap int_power_on (atom_again a (44 ∷ 32 ∷ (atom_text b ++ end_of_call)) h.0 refl)
+    ∙ ap (λ (x : AtomOn). int.Power a x.value) (atom_again b end_of_call h.1 refl))
 int_value_again (int.Xor a b) h =
     ap (λ bs. int_xor_on (atom_on bs)) (two_is (atom_text a) (atom_text b))
-    ∙ (ap int_xor_on (atom_again a (44 ∷ 32 ∷ (atom_text b ++ end_of_call)) h.0 refl) ∙ ap (λ (x : AtomOn). int.Xor a x.value) (atom_again b end_of_call h.1 refl))
-int_value_again (int.Length t) h = ap (λ bs. int.Length (text_on bs).value) (one_is (text_atom_text t)) ∙ ap (λ (x : TextOn). int.Length x.value) (text_again t end_of_call h refl)
+    ∙ (ap int_xor_on (atom_again a (44 ∷ 32 ∷ (atom_text b ++ end_of_call)) h.0 refl)
+    ∙ ap (λ (x : AtomOn). int.Xor a x.value) (atom_again b end_of_call h.1 refl))
+int_value_again (int.Length t) h = ap (λ bs. int.Length (text_on bs).value) (one_is (text_atom_text t))
+    ∙ ap (λ (x : TextOn). int.Length x.value) (text_again t end_of_call h refl)
 int_value_again (int.Index t u) h =
     ap (λ bs. int_index_on (text_on bs)) (two_is (text_atom_text t) (text_atom_text u))
-    ∙ (ap int_index_on (text_again t (44 ∷ 32 ∷ (text_atom_text u ++ end_of_call)) h.0 refl) ∙ ap (λ (x : TextOn). int.Index t x.value) (text_again u end_of_call h.1 refl))
-int_value_again (int.Code t) h = ap (λ bs. int.Code (text_on bs).value) (one_is (text_atom_text t)) ∙ ap (λ (x : TextOn). int.Code x.value) (text_again t end_of_call h refl)
+    ∙ (ap int_index_on (text_again t (44 ∷ 32 ∷ (text_atom_text u ++ end_of_call)) h.0 refl)
+    ∙ ap (λ (x : TextOn). int.Index t x.value) (text_again u end_of_call h.1 refl))
+int_value_again (int.Code t) h = ap (λ bs. int.Code (text_on bs).value) (one_is (text_atom_text t))
+    ∙ ap (λ (x : TextOn). int.Code x.value) (text_again t end_of_call h refl)
 int_value_again (int.Compare t u) h =
     ap (λ bs. int_compare_on (text_on bs)) (two_is (text_atom_text t) (text_atom_text u))
-    ∙ (ap int_compare_on (text_again t (44 ∷ 32 ∷ (text_atom_text u ++ end_of_call)) h.0 refl) ∙ ap (λ (x : TextOn). int.Compare t x.value) (text_again u end_of_call h.1 refl))
-int_value_again (int.Size r) h = ap (λ bs. int.Size (reference_on bs).value) (one_is (reference_text r)) ∙ ap (λ (x : ReferenceOn). int.Size x.value) (reference_again r end_of_call h refl)
-int_value_again (int.Live r) h = ap (λ bs. int.Live (reference_on bs).value) (one_is (reference_text r)) ∙ ap (λ (x : ReferenceOn). int.Live x.value) (reference_again r end_of_call h refl)
+    ∙ (ap int_compare_on (text_again t (44 ∷ 32 ∷ (text_atom_text u ++ end_of_call)) h.0 refl)
+    ∙ ap (λ (x : TextOn). int.Compare t x.value) (text_again u end_of_call h.1 refl))
+int_value_again (int.Size r) h = ap (λ bs. int.Size (reference_on bs).value) (one_is (reference_text r))
+    ∙ ap (λ (x : ReferenceOn). int.Size x.value) (reference_again r end_of_call h refl)
+int_value_again (int.Live r) h = ap (λ bs. int.Live (reference_on bs).value) (one_is (reference_text r))
+    ∙ ap (λ (x : ReferenceOn). int.Live x.value) (reference_again r end_of_call h refl)
 int_value_again int.Depth h = refl
 int_value_again int.More h = refl
-int_value_again (int.Look a) h = ap (λ bs. int.Look (atom_on bs).value) (one_is (atom_text a)) ∙ ap (λ (x : AtomOn). int.Look x.value) (atom_again a end_of_call h refl)
-int_value_again (int.Take a) h = ap (λ bs. int.Take (atom_on bs).value) (one_is (atom_text a)) ∙ ap (λ (x : AtomOn). int.Take x.value) (atom_again a end_of_call h refl)
+int_value_again (int.Look a) h = ap (λ bs. int.Look (atom_on bs).value) (one_is (atom_text a))
+    ∙ ap (λ (x : AtomOn). int.Look x.value) (atom_again a end_of_call h refl)
+int_value_again (int.Take a) h = ap (λ bs. int.Take (atom_on bs).value) (one_is (atom_text a))
+    ∙ ap (λ (x : AtomOn). int.Take x.value) (atom_again a end_of_call h refl)
 
 -- ---- texts
 
-text_first : (t : TextAtom) (rest : List ℕ) → text_value_on (text_atom_text t ++ rest) ≡ words.Atom (text_on (text_atom_text t ++ rest)).value
+text_first : (t : TextAtom) (rest : List ℕ) → text_value_on (text_atom_text t ++ rest)
+    ≡ words.Atom (text_on (text_atom_text t ++ rest)).value
 unfolding text_value_on
 text_first t rest = rw (text_begins t rest) refl
 
@@ -114,10 +134,12 @@ unfolding text_value_on text_call_on text_cell_on text_join_on text_part_on text
 text_value_again (words.Atom t) h = text_first t semicolon ∙ ap (λ (x : TextOn). words.Atom x.value) (text_again t semicolon h refl)
 text_value_again (words.Cell n a) h =
     ap (λ bs. text_cell_on (index_on bs)) (cell_is (decimal n) (atom_text a))
-    ∙ (ap text_cell_on (index_again n (91 ∷ (atom_text a ++ 93 ∷ semicolon)) h.0 refl) ∙ ap (λ (x : AtomOn). words.Cell n x.value) (atom_again a (93 ∷ semicolon) h.1 refl))
+    ∙ (ap text_cell_on (index_again n (91 ∷ (atom_text a ++ 93 ∷ semicolon)) h.0 refl)
+    ∙ ap (λ (x : AtomOn). words.Cell n x.value) (atom_again a (93 ∷ semicolon) h.1 refl))
 text_value_again (words.Join t u) h =
     ap (λ bs. text_join_on (text_on bs)) (two_is (text_atom_text t) (text_atom_text u))
-    ∙ (ap text_join_on (text_again t (44 ∷ 32 ∷ (text_atom_text u ++ end_of_call)) h.0 refl) ∙ ap (λ (x : TextOn). words.Join t x.value) (text_again u end_of_call h.1 refl))
+    ∙ (ap text_join_on (text_again t (44 ∷ 32 ∷ (text_atom_text u ++ end_of_call)) h.0 refl)
+    ∙ ap (λ (x : TextOn). words.Join t x.value) (text_again u end_of_call h.1 refl))
 text_value_again (words.Part t a b) h =
     let second = 44 ∷ 32 ∷ (atom_text b ++ end_of_call) in
     ap (λ bs. text_part_on (text_on bs)) (three_is (text_atom_text t) (atom_text a) (atom_text b))
@@ -132,8 +154,13 @@ text_value_again (words.Over t a u) h =
     ∙ ap (λ (x : TextOn). words.Over t a x.value) (text_again u end_of_call h.2 refl)))
 text_value_again (words.Fit t a) h =
     ap (λ bs. text_fit_on (text_on bs)) (two_is (text_atom_text t) (atom_text a))
-    ∙ (ap text_fit_on (text_again t (44 ∷ 32 ∷ (atom_text a ++ end_of_call)) h.0 refl) ∙ ap (λ (x : AtomOn). words.Fit t x.value) (atom_again a end_of_call h.1 refl))
-text_value_again (words.Trim t) h = ap (λ bs. words.Trim (text_on bs).value) (one_is (text_atom_text t)) ∙ ap (λ (x : TextOn). words.Trim x.value) (text_again t end_of_call h refl)
-text_value_again (words.Left t) h = ap (λ bs. words.Left (text_on bs).value) (one_is (text_atom_text t)) ∙ ap (λ (x : TextOn). words.Left x.value) (text_again t end_of_call h refl)
-text_value_again (words.Right t) h = ap (λ bs. words.Right (text_on bs).value) (one_is (text_atom_text t)) ∙ ap (λ (x : TextOn). words.Right x.value) (text_again t end_of_call h refl)
-text_value_again (words.Char a) h = ap (λ bs. words.Char (atom_on bs).value) (one_is (atom_text a)) ∙ ap (λ (x : AtomOn). words.Char x.value) (atom_again a end_of_call h refl)
+    ∙ (ap text_fit_on (text_again t (44 ∷ 32 ∷ (atom_text a ++ end_of_call)) h.0 refl)
+    ∙ ap (λ (x : AtomOn). words.Fit t x.value) (atom_again a end_of_call h.1 refl))
+text_value_again (words.Trim t) h = ap (λ bs. words.Trim (text_on bs).value) (one_is (text_atom_text t))
+    ∙ ap (λ (x : TextOn). words.Trim x.value) (text_again t end_of_call h refl)
+text_value_again (words.Left t) h = ap (λ bs. words.Left (text_on bs).value) (one_is (text_atom_text t))
+    ∙ ap (λ (x : TextOn). words.Left x.value) (text_again t end_of_call h refl)
+text_value_again (words.Right t) h = ap (λ bs. words.Right (text_on bs).value) (one_is (text_atom_text t))
+    ∙ ap (λ (x : TextOn). words.Right x.value) (text_again t end_of_call h refl)
+text_value_again (words.Char a) h = ap (λ bs. words.Char (atom_on bs).value) (one_is (atom_text a))
+    ∙ ap (λ (x : AtomOn). words.Char x.value) (atom_again a end_of_call h refl)

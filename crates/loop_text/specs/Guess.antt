@@ -2,7 +2,8 @@
 -- reader compares. Each line that is spelled right is taken for what it spells.
 -- No public clause cites this file: it says how the private functions work. What is read and what is refused stands in
 -- Refused.antt.
-use Rattle.std.specs.Prelude.{ℕ, zero, suc, ◌+◌, ◌-◌, ◌*◌, ◌%◌, ◌^◌, ◌==◌, Bool, false, ◌&&◌, ◌||◌, nat_le, nat_eq, if◌then◌else◌, List, [], ◌∷◌, ◌++◌, length, get_or, drop, codes}
+use Rattle.std.specs.Prelude.{ℕ, zero, suc, ◌+◌, ◌-◌, ◌*◌, ◌%◌, ◌^◌, ◌==◌, Bool, false, ◌&&◌, ◌||◌, nat_le, nat_eq, if◌then◌else◌}
+use Rattle.std.specs.Prelude.{List, [], ◌∷◌, ◌++◌, length, get_or, drop, codes}
 use Rattle.std.specs.List.{starts_with}
 use Rattle.std.specs.Int.{w64, cast_signed, int_wrapping_neg}
 use Rattle.std.specs.Option.{unwrap_or}
@@ -51,7 +52,8 @@ pub record NumberOn : Type 0 where
 -- with the digits at the front behind those of n, modulo 2 ^ 64
 abbrev pub number_onto : ℕ → List ℕ → NumberOn
 number_onto n [] = record { value = n; rest = [] }
-number_onto n (c ∷ cs) = if is_digit c then number_onto (((n * 10) % 2 ^ 64 + (c - 48)) % 2 ^ 64) cs else record { value = n; rest = c ∷ cs }
+number_onto n (c ∷ cs) = if is_digit c then number_onto (((n * 10) % 2 ^ 64 + (c - 48)) % 2 ^ 64) cs else record
+    { value = n; rest = c ∷ cs }
 
 abbrev pub number_on : List ℕ → NumberOn
 number_on bytes = number_onto 0 bytes
@@ -143,7 +145,8 @@ abbrev pub texts_reference : NumberOn → ReferenceOn
 texts_reference n = record { value = reference.Texts n.value; rest = n.rest }
 
 unfoldable pub reference_on : List ℕ → ReferenceOn
-reference_on bytes = if byte_at bytes 0 == 98 then ints_reference (index_on (drop 1 bytes)) else texts_reference (index_on (drop 1 bytes))
+reference_on bytes = if byte_at bytes 0 == 98 then ints_reference (index_on (drop 1 bytes)) else texts_reference
+    (index_on (drop 1 bytes))
 
 pub record ArgumentOn : Type 0 where
   pub value : Argument
@@ -206,7 +209,8 @@ operator_length other = 1
 unfoldable pub operation_on : AtomOn → IntValue
 operation_on a =
     let op = operator_on (drop 1 a.rest) in
-    if byte_at a.rest 0 == 32 then int.Operation a.value op (atom_on (drop (operator_length op + 2) a.rest)).value else int.Atom a.value
+    if byte_at a.rest 0 == 32 then int.Operation a.value op (atom_on (drop (operator_length op + 2) a.rest)).value else int.Atom
+    a.value
 
 unfoldable pub int_cell_on : NumberOn → IntValue
 int_cell_on n = int.Cell n.value (atom_on (drop 1 n.rest)).value
@@ -309,10 +313,12 @@ texts_value_on n bytes =
     block.SameTexts n (index_on (drop 1 bytes)).value))
 
 unfoldable pub ints_row_on : NumberOn → BlockRow
-ints_row_on n = if byte_at n.rest 0 == 91 then store_int_on n.value (atom_on (drop 1 n.rest)) else ints_value_on n.value (drop 3 n.rest)
+ints_row_on n = if byte_at n.rest 0 == 91 then store_int_on n.value (atom_on (drop 1 n.rest)) else ints_value_on n.value
+    (drop 3 n.rest)
 
 unfoldable pub texts_row_on : NumberOn → BlockRow
-texts_row_on n = if byte_at n.rest 0 == 91 then store_text_on n.value (atom_on (drop 1 n.rest)) else texts_value_on n.value (drop 3 n.rest)
+texts_row_on n = if byte_at n.rest 0 == 91 then store_text_on n.value (atom_on (drop 1 n.rest)) else texts_value_on n.value
+    (drop 3 n.rest)
 
 unfoldable pub int_row_on : NumberOn → Row
 int_row_on n = row.Int n.value (int_value_on (drop 3 n.rest))
@@ -357,7 +363,8 @@ built_in_on bytes =
 -- what stands behind `for (kN = `
 unfoldable pub for_on : ℕ → AtomOn → CodeLine
 for_on k first =
-    if byte_at first.rest 0 == 59 then code.ForUp k (atom_on (drop 3 (index_on (drop 3 first.rest)).rest)).value else code.ForDown k first.value
+    if byte_at first.rest 0 == 59 then code.ForUp k (atom_on (drop 3 (index_on (drop 3 first.rest)).rest)).value else code.ForDown k
+    first.value
 
 unfoldable pub loop_on : NumberOn → CodeLine
 loop_on k = for_on k.value (atom_on (drop 3 k.rest))
@@ -375,4 +382,5 @@ word_on bytes =
     code.Row (row.Control control.Return))))))))
 
 unfoldable pub line_on : List ℕ → CodeLine
-line_on bytes = if is_digit (byte_at bytes 1) then code.Row (variable_row_on (byte_at bytes 0) (index_on (drop 1 bytes))) else word_on bytes
+line_on bytes = if is_digit (byte_at bytes 1) then code.Row (variable_row_on (byte_at bytes 0) (index_on (drop 1 bytes))) else
+    word_on bytes

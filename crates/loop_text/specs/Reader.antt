@@ -1,6 +1,7 @@
 -- How a text is read, line after line. No public clause cites this file: it says how the private functions work. What is
 -- read and what is refused stands in Refused.antt.
-use Rattle.std.specs.Prelude.{◌≡◌, ℕ, ◌+◌, ◌^◌, ◌==◌, Bool, true, false, ◌&&◌, ◌||◌, nat_lt, nat_le, if◌then◌else◌, List, [], ◌∷◌, ◌++◌, length, drop, codes, filter_map, Option, Some, None}
+use Rattle.std.specs.Prelude.{◌≡◌, ℕ, ◌+◌, ◌^◌, ◌==◌, Bool, true, false, ◌&&◌, ◌||◌, nat_lt, nat_le, if◌then◌else◌, List, [], ◌∷◌}
+use Rattle.std.specs.Prelude.{◌++◌, length, drop, codes, filter_map, Option, Some, None}
 use Rattle.std.specs.List.{list_any}
 use Rattle.std.specs.Str.{bytes_eq}
 use Rattle.loop_tree.specs.declared.atom.Letter.{Letter}
@@ -59,12 +60,14 @@ start_with r bytes = if bytes_eq bytes (codes "/* LoopC 1 */") then Some (record
 
 -- a further function may begin, with these parameters: function 0 has none
 abbrev pub may_begin : ℕ → ℕ → Bool
-may_begin functions parameters = nat_lt functions (2 ^ 32) && (nat_le parameters (2 ^ 32) && (nat_lt 0 functions || (parameters == 0)))
+may_begin functions parameters = nat_lt functions (2 ^ 32) &&
+    (nat_le parameters (2 ^ 32) && (nat_lt 0 functions || (parameters == 0)))
 
 abbrev pub begin : Reader → List ℕ → List Letter → Option Reader
 begin r bytes parameters =
     if bytes_eq bytes (function_head (length r.functions) parameters) then (
-    if may_begin (length r.functions) (length parameters) then Some (record r { within = true; parameters = parameters }) else None) else None
+    if may_begin (length r.functions) (length parameters) then Some (record r { within = true; parameters = parameters }) else None)
+    else None
 
 -- a break or continue stands in a loop
 abbrev pub may_stand : Row → List Level → Bool
@@ -75,10 +78,12 @@ add_row r row = if may_stand row r.levels then Some (record r { body = r.body ++
 
 -- at most 1,000 braces are open, the function's own among them
 unfoldable pub open_level : Reader → LevelKind → Option Reader
-open_level r kind = if nat_lt (length r.levels + 1) 1000 then Some (record r { levels = record { kind = kind; outer = r.body } ∷ r.levels; body = [] }) else None
+open_level r kind = if nat_lt (length r.levels + 1) 1000 then Some
+    (record r { levels = record { kind = kind; outer = r.body } ∷ r.levels; body = [] }) else None
 
 abbrev pub else_of : Reader → LevelKind → List Stmt → List Level → Option Reader
-else_of r (kind.If a) outer levels = Some (record r { levels = record { kind = kind.Else a r.body; outer = outer } ∷ levels; body = [] })
+else_of r (kind.If a) outer levels =
+    Some (record r { levels = record { kind = kind.Else a r.body; outer = outer } ∷ levels; body = [] })
 else_of r other outer levels = None
 
 abbrev pub else_in : Reader → List Level → Option Reader
@@ -86,7 +91,13 @@ else_in r [] = None
 else_in r (level ∷ levels) = else_of r level.kind level.outer levels
 
 abbrev pub close_in : Reader → List Level → Reader
-close_in r [] = record r { within = false; functions = r.functions ++ record { parameters = r.parameters; body = r.body } ∷ []; parameters = []; body = [] }
+close_in r [] =
+    record r {
+      within = false;
+      functions = r.functions ++ record { parameters = r.parameters; body = r.body } ∷ [];
+      parameters = [];
+      body = [];
+    }
 close_in r (level ∷ levels) = record r { levels = levels; body = level.outer ++ closed level.kind r.body ∷ [] }
 
 unfoldable pub add_line : Reader → CodeLine → Option Reader
@@ -103,7 +114,8 @@ go_on r bytes line = if bytes_eq bytes (spell line) then add_line r line else No
 
 -- one more line, if a text may go on with it
 unfoldable pub accept : Reader → List ℕ → Option Reader
-accept r bytes = if r.started then (if r.within then go_on r bytes (line_on bytes) else begin r bytes (letters_on bytes)) else start_with r bytes
+accept r bytes = if r.started then (if r.within then go_on r bytes (line_on bytes) else begin r bytes (letters_on bytes)) else
+    start_with r bytes
 
 -- before the first line
 abbrev pub nothing_read : Reader

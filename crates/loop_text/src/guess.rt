@@ -1,7 +1,11 @@
 //! What a line is taken for, as `specs/Guess.antt` says: only some of its bytes are looked at.
 
 ghost use Rattle.std.specs.Prelude.{◌≡◌, ◌%◌, ◌^◌, IfOk};
-ghost use Rattle.loop_text.specs.Guess.{operator_on, operator_length, int_value_on, int_call_on, text_value_on, text_call_on, ints_value_on, texts_value_on, variable_row_on, fault_of, built_in_on, word_on, line_on, index_on, number_on, atom_on, text_on, reference_on, second_atom, second_text, int_plain_on, text_join_on, text_part_on, text_over_on, text_fit_on, ints_row_on, texts_row_on, loop_on};
+ghost use Rattle.loop_text.specs.Guess.{operator_on, operator_length, int_value_on, int_call_on, text_value_on, text_call_on};
+ghost use Rattle.loop_text.specs.Guess.{ints_value_on, texts_value_on, variable_row_on, fault_of, built_in_on, word_on, line_on};
+ghost use Rattle.loop_text.specs.Guess.{index_on, number_on, atom_on, text_on, reference_on, second_atom, second_text};
+ghost use Rattle.loop_text.specs.Guess.{int_plain_on, text_join_on, text_part_on, text_over_on, text_fit_on, ints_row_on};
+ghost use Rattle.loop_text.specs.Guess.{texts_row_on, loop_on};
 
 use crate::atoms::{
     arguments, atom, begins, begins_atom, begins_text, behind_text, byte_at, index, is_digit,

@@ -2,7 +2,9 @@
 ghost use Rattle.std.specs.Prelude.{◌≡◌, [], ◌∷◌, ◌++◌, length, filter_map, IfOk, OnOk};
 ghost use Rattle.std.specs.Str.{bytes_eq};
 ghost use Rattle.loop_tree.specs.Text.{spell, function_head};
-ghost use Rattle.loop_text.specs.Reader.{nothing_read, Took, letters_on, letter_at, start_with, begin, may_begin, may_stand, add_row, open_level, else_in, close_in, closed, is_loop, in_loop, add_line, go_on, accept, is_text};
+ghost use Rattle.loop_text.specs.Reader.{nothing_read, Took, letters_on, letter_at, start_with, begin, may_begin, may_stand};
+ghost use Rattle.loop_text.specs.Reader.{add_row, open_level, else_in, close_in, closed, is_loop, in_loop, add_line, go_on, accept};
+ghost use Rattle.loop_text.specs.Reader.{is_text};
 
 use crate::atoms::{number, skip};
 use crate::guess::guess;

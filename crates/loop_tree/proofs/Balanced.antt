@@ -30,13 +30,15 @@ unfolding exits
 closed body r = ap exits (append_assoc (lines_in body) (code.Close ∷ []) r) ∙ in_row body (code.Close ∷ r)
 
 -- two bodies, with ELSE between them
-parted : (body other : List Passing) (r : List CodeLine) → rest_of (exits ((lines_in body ++ code.Else ∷ (lines_in other ++ code.Close ∷ [])) ++ r)) ≡ exits r
+parted : (body other : List Passing) (r : List CodeLine) → rest_of
+    (exits ((lines_in body ++ code.Else ∷ (lines_in other ++ code.Close ∷ [])) ++ r)) ≡ exits r
 unfolding exits
 parted body other r =
     ap (λ ls. rest_of (exits ls)) (append_assoc (lines_in body) (code.Else ∷ (lines_in other ++ code.Close ∷ [])) r)
     ∙ (ap rest_of (in_row body (code.Else ∷ ((lines_in other ++ code.Close ∷ []) ++ r))) ∙ ap rest_of (closed other r))
 
-level : (y : Stmt-F Passing) (r : List CodeLine) → exits (flat_at (map-Stmt Stmt (List CodeLine) flat (map-Stmt Passing Stmt (λ e. e.0) y)) ++ r) ≡ exits r
+level : (y : Stmt-F Passing) (r : List CodeLine) →
+    exits (flat_at (map-Stmt Stmt (List CodeLine) flat (map-Stmt Passing Stmt (λ e. e.0) y)) ++ r) ≡ exits r
 unfolding exits
 level (layer.Row row) r = refl
 level (layer.If test body) r = ap rest_of (closed body r)
@@ -59,7 +61,8 @@ pub exits-body : (body : List Stmt) (r : List CodeLine) → exits (flats body ++
 unfolding exits
 exits-body body r = exits-flats body (code.Close ∷ r)
 
-pub exits-branch : (body : List Stmt) (r : List CodeLine) → exits (flats body ++ code.Else ∷ r) ≡ (code.Else ∷ r) ∷ rest_of (exits r)
+pub exits-branch : (body : List Stmt) (r : List CodeLine) → exits (flats body ++ code.Else ∷ r) ≡ (code.Else ∷ r)
+    ∷ rest_of (exits r)
 unfolding exits
 exits-branch body r = exits-flats body (code.Else ∷ r)
 

@@ -1,5 +1,6 @@
 -- Statements that may stand in a body, and one more of them.
-use Rattle.std.proofs.Common.{◌≡◌, ℕ, ◌<◌, ◌≤◌, max, Bool, true, false, ◌||◌, List, [], ◌∷◌, ◌++◌, refl, sym, ◌∙◌, ap, subst, arith, append_assoc}
+use Rattle.std.proofs.Common.{◌≡◌, ℕ, ◌<◌, ◌≤◌, max, Bool, true, false, ◌||◌, List, [], ◌∷◌, ◌++◌, refl, sym, ◌∙◌, ap, subst, arith}
+use Rattle.std.proofs.Common.{append_assoc}
 use Rattle.std.specs.Prelude.{Result, Ok, Err, OnOk, OnErr}
 use Rattle.std.specs.List.{AllByRecursion}
 use Rattle.loop_tree.specs.declared.atom.Atom.{Atom}
@@ -11,7 +12,9 @@ use Rattle.loop_tree.specs.declared.tree.CodeLine.TheVariants as code
 use Rattle.loop_tree.specs.Lines.{flat, flats}
 use Rattle.loop_tree.specs.Program.{FitsNumber, FitsAtom, FitsRow, FitsLine, leaves_row, leaves, some_leaves, depths}
 use Rattle.loop_tree.specs.Body.{Body, IsBody, Stands}
-use Rattle.loop_tree.proofs.Trees.{flat-Row, flat-If, flat-IfElse, flat-ForUp, flat-ForDown, flat-Forever, depth-Row, depth-If, depth-IfElse, depth-ForUp, depth-ForDown, depth-Forever, leaves-Row, leaves-If, leaves-IfElse, leaves-ForUp, leaves-ForDown, leaves-Forever}
+use Rattle.loop_tree.proofs.Trees.{flat-Row, flat-If, flat-IfElse, flat-ForUp, flat-ForDown, flat-Forever, depth-Row, depth-If}
+use Rattle.loop_tree.proofs.Trees.{depth-IfElse, depth-ForUp, depth-ForDown, depth-Forever, leaves-Row, leaves-If, leaves-IfElse}
+use Rattle.loop_tree.proofs.Trees.{leaves-ForUp, leaves-ForDown, leaves-Forever}
 
 -- ---- lists of statements
 
@@ -25,7 +28,8 @@ or_assoc false b c = refl
 
 pub some_leaves-append : (a b : List Stmt) → some_leaves (a ++ b) ≡ (some_leaves a || some_leaves b)
 some_leaves-append [] b = refl
-some_leaves-append (s ∷ a) b = ap (λ x. leaves s || x) (some_leaves-append a b) ∙ sym (or_assoc (leaves s) (some_leaves a) (some_leaves b))
+some_leaves-append (s ∷ a) b = ap (λ x. leaves s || x) (some_leaves-append a b)
+    ∙ sym (or_assoc (leaves s) (some_leaves a) (some_leaves b))
 
 pub depths-append : (a b : List Stmt) → depths (a ++ b) ≡ max (depths a) (depths b)
 depths-append [] b = omega arith
@@ -68,12 +72,14 @@ one_body room in_loop s small is = record {
 
 -- what a push leaves, whatever it answers
 pub pushed : {T E : Type 0} (r : Result T E) (body : Body) (s : Stmt) (new : List Stmt) → IsBody body → Stands body s
-    → OnOk r (new ≡ body.statements ++ s ∷ []) → OnErr r (new ≡ body.statements) → IsBody (record { statements = new; room = body.room; in_loop = body.in_loop })
+    → OnOk r (new ≡ body.statements ++ s ∷ []) → OnErr r (new ≡ body.statements) →
+    IsBody (record { statements = new; room = body.room; in_loop = body.in_loop })
 pushed (Ok a) body s new is stands ok err =
     subst (λ (l : List Stmt). IsBody (record { statements = l; room = body.room; in_loop = body.in_loop })) (sym ok)
     (both_bodies body.room body.in_loop body.statements (s ∷ []) is
     (one_body body.room body.in_loop s is.room (record { numbers = stands.numbers; loops = stands.loops; braces = stands.braces })))
-pushed (Err e) body s new is stands ok err = subst (λ (l : List Stmt). IsBody (record { statements = l; room = body.room; in_loop = body.in_loop })) (sym err) is
+pushed (Err e) body s new is stands ok err =
+    subst (λ (l : List Stmt). IsBody (record { statements = l; room = body.room; in_loop = body.in_loop })) (sym err) is
 
 -- ---- each kind of statement
 
@@ -93,18 +99,24 @@ closed_fit head body h k = (h, fit_both (flats body) (code.Close ∷ []) k (tt, 
 pub if_stands : (body inner : Body) (test : Atom) → FitsAtom test → IsBody inner → inner.room < body.room
     → (inner.in_loop ≡ true → body.in_loop ≡ true) → Stands body (stmt.If test inner.statements)
 if_stands body inner test fits is room loops = record {
-  numbers = subst (AllByRecursion FitsLine) (sym (flat-If test inner.statements)) (closed_fit (code.If test) inner.statements fits is.numbers);
+  numbers = subst (AllByRecursion FitsLine) (sym (flat-If test inner.statements))
+      (closed_fit (code.If test) inner.statements fits is.numbers);
   loops = λ e. loops (is.loops (sym (leaves-If test inner.statements) ∙ e));
   braces = omega (arith, depth-If test inner.statements, is.braces);
 }
 
 pub else_stands : (body inner other : Body) (test : Atom) → FitsAtom test → IsBody inner → inner.room < body.room
     → (inner.in_loop ≡ true → body.in_loop ≡ true)
-    → IsBody other → other.room < body.room → (other.in_loop ≡ true → body.in_loop ≡ true) → Stands body (stmt.IfElse test inner.statements other.statements)
+    → IsBody other → other.room < body.room → (other.in_loop ≡ true → body.in_loop ≡ true) →
+    Stands body (stmt.IfElse test inner.statements other.statements)
 else_stands body inner other test fits is room loops too below leaves_none = record {
-  numbers = subst (AllByRecursion FitsLine) (sym (flat-IfElse test inner.statements other.statements))
-      (fits, fit_both (flats inner.statements) (code.Else ∷ (flats other.statements ++ code.Close ∷ [])) is.numbers (closed_fit code.Else other.statements tt too.numbers));
-  loops = λ e. either_true (some_leaves inner.statements) (some_leaves other.statements) (body.in_loop ≡ true) (λ f. loops (is.loops f)) (λ f. leaves_none (too.loops f))
+  numbers = subst (AllByRecursion FitsLine) (sym (flat-IfElse test inner.statements other.statements)) (
+    fits,
+    fit_both (flats inner.statements) (code.Else ∷ (flats other.statements ++ code.Close ∷ [])) is.numbers
+        (closed_fit code.Else other.statements tt too.numbers),
+  );
+  loops = λ e. either_true (some_leaves inner.statements) (some_leaves other.statements) (body.in_loop ≡ true)
+      (λ f. loops (is.loops f)) (λ f. leaves_none (too.loops f))
       (sym (leaves-IfElse test inner.statements other.statements) ∙ e);
   braces = omega (arith, depth-IfElse test inner.statements other.statements, is.braces, too.braces);
 }
@@ -116,7 +128,8 @@ no_leave false P e f = absurd cc
 pub up_stands : (body inner : Body) (k : ℕ) (bound : Atom) → FitsNumber k → FitsAtom bound → IsBody inner
     → inner.room < body.room → Stands body (stmt.ForUp k bound inner.statements)
 up_stands body inner k bound small fits is room = record {
-  numbers = subst (AllByRecursion FitsLine) (sym (flat-ForUp k bound inner.statements)) (closed_fit (code.ForUp k bound) inner.statements (small, fits) is.numbers);
+  numbers = subst (AllByRecursion FitsLine) (sym (flat-ForUp k bound inner.statements))
+      (closed_fit (code.ForUp k bound) inner.statements (small, fits) is.numbers);
   loops = no_leave (leaves (stmt.ForUp k bound inner.statements)) (body.in_loop ≡ true) (leaves-ForUp k bound inner.statements);
   braces = omega (arith, depth-ForUp k bound inner.statements, is.braces);
 }
@@ -124,14 +137,16 @@ up_stands body inner k bound small fits is room = record {
 pub down_stands : (body inner : Body) (k : ℕ) (bound : Atom) → FitsNumber k → FitsAtom bound → IsBody inner
     → inner.room < body.room → Stands body (stmt.ForDown k bound inner.statements)
 down_stands body inner k bound small fits is room = record {
-  numbers = subst (AllByRecursion FitsLine) (sym (flat-ForDown k bound inner.statements)) (closed_fit (code.ForDown k bound) inner.statements (small, fits) is.numbers);
+  numbers = subst (AllByRecursion FitsLine) (sym (flat-ForDown k bound inner.statements))
+      (closed_fit (code.ForDown k bound) inner.statements (small, fits) is.numbers);
   loops = no_leave (leaves (stmt.ForDown k bound inner.statements)) (body.in_loop ≡ true) (leaves-ForDown k bound inner.statements);
   braces = omega (arith, depth-ForDown k bound inner.statements, is.braces);
 }
 
 pub forever_stands : (body inner : Body) → IsBody inner → inner.room < body.room → Stands body (stmt.Forever inner.statements)
 forever_stands body inner is room = record {
-  numbers = subst (AllByRecursion FitsLine) (sym (flat-Forever inner.statements)) (closed_fit code.Forever inner.statements tt is.numbers);
+  numbers = subst (AllByRecursion FitsLine) (sym (flat-Forever inner.statements))
+      (closed_fit code.Forever inner.statements tt is.numbers);
   loops = no_leave (leaves (stmt.Forever inner.statements)) (body.in_loop ≡ true) (leaves-Forever inner.statements);
   braces = omega (arith, depth-Forever inner.statements, is.braces);
 }

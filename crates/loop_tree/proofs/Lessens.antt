@@ -1,6 +1,7 @@
 -- A step that begins no turn leaves less to do: each call's lines that come next grow fewer, since every exit is taken
 -- from them.
-use Rattle.std.proofs.Common.{◌≡◌, ℕ, suc, ◌+◌, ◌≤◌, ◌<◌, ℤ, Bool, true, false, List, [], ◌∷◌, length, Option, Some, None, Result, Ok, Err, if◌then◌else◌, pos, ◌+ℤ◌, ◌-ℤ◌, refl, ap, arith}
+use Rattle.std.proofs.Common.{◌≡◌, ℕ, suc, ◌+◌, ◌≤◌, ◌<◌, ℤ, Bool, true, false, List, [], ◌∷◌, length, Option, Some, None, Result}
+use Rattle.std.proofs.Common.{Ok, Err, if◌then◌else◌, pos, ◌+ℤ◌, ◌-ℤ◌, refl, ap, arith}
 use Rattle.std.specs.Int.{w64, int_wrap}
 use Rattle.std.specs.List.{AllByRecursion, list_all}
 use Rattle.a95_base.specs.Input.{Reading, Integer, NoMore, NoInteger, next_value}
@@ -22,11 +23,17 @@ use Rattle.loop_tree.specs.declared.tree.CodeLine.{CodeLine}
 use Rattle.loop_tree.specs.declared.tree.CodeLine.TheVariants as code
 use Rattle.loop_tree.specs.declared.tree.Function.{Function}
 use Rattle.loop_tree.specs.declared.row.TextValue.{TextValue}
-use Rattle.loop_tree.specs.State.{Brace, Choice, Upward, Downward, Forever, Frame, State, Stuck, Next, Goes, Ends, with_rest, set_int, set_index, set_text}
+use Rattle.loop_tree.specs.State.{Brace, Choice, Upward, Downward, Forever, Frame, State, Stuck, Next, Goes, Ends, with_rest}
+use Rattle.loop_tree.specs.State.{set_int, set_index, set_text}
 use Rattle.loop_tree.specs.Values.{number_at, atom_of, holds, int_value, text_value}
 use Rattle.loop_tree.specs.Machine as machine
 use Rattle.a95_base.specs.Lists.{rest_of}
-use Rattle.loop_tree.specs.Machine.{given, first_exit, exit_of, behind, exits, loop_end, Place, back_to, leave, begin_loop, again, skip_choice, if_line, for_up_line, for_down_line, forever_line, close_line, else_line, take_line, int_line, text_line, change_line, free_line, new_ints_line, new_texts_line, same_ints_line, same_texts_line, block_line, enter_if, callable, is_usable, call_line, break_line, continue_line, at_line, control_line, put_line, record_line, row_line, do_line, step_at, step}
+use Rattle.loop_tree.specs.Machine.{given, first_exit, exit_of, behind, exits, loop_end, Place, back_to, leave, begin_loop, again}
+use Rattle.loop_tree.specs.Machine.{skip_choice, if_line, for_up_line, for_down_line, forever_line, close_line, else_line}
+use Rattle.loop_tree.specs.Machine.{take_line, int_line, text_line, change_line, free_line, new_ints_line, new_texts_line}
+use Rattle.loop_tree.specs.Machine.{same_ints_line, same_texts_line, block_line, enter_if, callable, is_usable, call_line}
+use Rattle.loop_tree.specs.Machine.{break_line, continue_line, at_line, control_line, put_line, record_line, row_line, do_line}
+use Rattle.loop_tree.specs.Machine.{step_at, step}
 
 -- ---- what is left
 
@@ -67,11 +74,16 @@ exits_short : (lines : List CodeLine) → Short (length lines) (exits lines)
 unfolding exits
 exits_short [] = tt
 exits_short (code.Row r ∷ lines) = short_more (length lines) (exits lines) (exits_short lines)
-exits_short (code.If test ∷ lines) = short_more (length lines) (rest_of (exits lines)) (short_rest (length lines) (exits lines) (exits_short lines))
-exits_short (code.Else ∷ lines) = (omega arith, short_more (length lines) (rest_of (exits lines)) (short_rest (length lines) (exits lines) (exits_short lines)))
-exits_short (code.ForUp k bound ∷ lines) = short_more (length lines) (rest_of (exits lines)) (short_rest (length lines) (exits lines) (exits_short lines))
-exits_short (code.ForDown k bound ∷ lines) = short_more (length lines) (rest_of (exits lines)) (short_rest (length lines) (exits lines) (exits_short lines))
-exits_short (code.Forever ∷ lines) = short_more (length lines) (rest_of (exits lines)) (short_rest (length lines) (exits lines) (exits_short lines))
+exits_short (code.If test ∷ lines) = short_more (length lines) (rest_of (exits lines))
+    (short_rest (length lines) (exits lines) (exits_short lines))
+exits_short (code.Else ∷ lines) =
+    (omega arith, short_more (length lines) (rest_of (exits lines)) (short_rest (length lines) (exits lines) (exits_short lines)))
+exits_short (code.ForUp k bound ∷ lines) = short_more (length lines) (rest_of (exits lines))
+    (short_rest (length lines) (exits lines) (exits_short lines))
+exits_short (code.ForDown k bound ∷ lines) = short_more (length lines) (rest_of (exits lines))
+    (short_rest (length lines) (exits lines) (exits_short lines))
+exits_short (code.Forever ∷ lines) = short_more (length lines) (rest_of (exits lines))
+    (short_rest (length lines) (exits lines) (exits_short lines))
 exits_short (code.Close ∷ lines) = (omega arith, short_more (length lines) (exits lines) (exits_short lines))
 
 length_rest : {A : Type 0} (lines : List A) → length (rest_of lines) ≤ length lines
@@ -84,7 +96,8 @@ exit_short lines = short_first (length lines) (exits lines) (exits_short lines)
 behind_short : (lines : List CodeLine) → length (behind lines) ≤ length lines
 behind_short lines = omega (arith, length_rest (exit_of lines), exit_short lines)
 
-loop_end_short : (n : ℕ) (braces : List Brace) (lists : List (List CodeLine)) → Short n lists → length ((loop_end braces lists).lines) ≤ n
+loop_end_short : (n : ℕ) (braces : List Brace) (lists : List (List CodeLine)) → Short n lists →
+    length ((loop_end braces lists).lines) ≤ n
 unfolding loop_end
 loop_end_short n [] lists h = short_first n lists h
 loop_end_short n (Choice ∷ braces) lists h = loop_end_short n braces (rest_of lists) (short_rest n lists h)
@@ -94,7 +107,8 @@ loop_end_short n (Forever body ∷ braces) lists h = short_first n lists h
 
 -- ---- each line
 
-given_lessens : {A : Type 0} (n : ℕ) (r : Result A StuckState) (next : A → State) → ((a : A) → left_over (next a) < n) → Lessens n (given r next)
+given_lessens : {A : Type 0} (n : ℕ) (r : Result A StuckState) (next : A → State) → ((a : A) → left_over (next a) < n) →
+    Lessens n (given r next)
 given_lessens n (Ok a) next h = h a
 given_lessens n (Err why) next h = tt
 
@@ -111,7 +125,8 @@ leave_more s [] n h = tt
 leave_more s (caller ∷ callers) n h = omega arith
 
 -- here s has the lines behind the line as its rest, and n is what was left before it
-skip_lessens : (n : ℕ) (s : State) (exit : List CodeLine) → length exit ≤ length s.now.rest → left_over s < n → left_over (skip_choice s exit) < n
+skip_lessens : (n : ℕ) (s : State) (exit : List CodeLine) → length exit ≤ length s.now.rest → left_over s < n →
+    left_over (skip_choice s exit) < n
 skip_lessens n s [] h less = omega arith
 skip_lessens n s (code.Row r ∷ lines) h less = omega arith
 skip_lessens n s (code.If test ∷ lines) h less = omega arith
@@ -121,7 +136,8 @@ skip_lessens n s (code.ForDown k bound ∷ lines) h less = omega arith
 skip_lessens n s (code.Forever ∷ lines) h less = omega arith
 skip_lessens n s (code.Close ∷ lines) h less = omega arith
 
-choice_lessens : (n : ℕ) (s : State) (b : Bool) → left_over s < n → Lessens n (if b then machine.quiet (machine.open_brace s Choice) else machine.quiet (skip_choice s (exit_of s.now.rest)))
+choice_lessens : (n : ℕ) (s : State) (b : Bool) → left_over s < n →
+    Lessens n (if b then machine.quiet (machine.open_brace s Choice) else machine.quiet (skip_choice s (exit_of s.now.rest)))
 choice_lessens n s true less = less
 choice_lessens n s false less = skip_lessens n s (exit_of s.now.rest) (exit_short s.now.rest) less
 
@@ -129,7 +145,8 @@ begin_lessens : (n : ℕ) (s : State) (goes : Bool) (brace : Brace) → left_ove
 begin_lessens n s true brace less = tt
 begin_lessens n s false brace less = omega (arith, behind_short s.now.rest)
 
-again_lessens : (n : ℕ) (s : State) (goes : Bool) (body : List CodeLine) (braces : List Brace) → left_over s < n → Lessens n (again s goes body braces)
+again_lessens : (n : ℕ) (s : State) (goes : Bool) (body : List CodeLine) (braces : List Brace) → left_over s < n →
+    Lessens n (again s goes body braces)
 again_lessens n s true body braces less = tt
 again_lessens n s false body braces less = less
 
@@ -149,8 +166,10 @@ close_lessens : (n : ℕ) (s : State) (braces : List Brace) → left_over s < n 
 unfolding close_line leave
 close_lessens n s [] less = leave_more s s.callers n (omega arith)
 close_lessens n s (Choice ∷ braces) less = less
-close_lessens n s (Upward k bound body ∷ braces) less = again_lessens n (set_index s k (int_wrap w64 (number_at s.now.indices k +ℤ pos 1))) _ body braces less
-close_lessens n s (Downward k body ∷ braces) less = again_lessens n (set_index s k (int_wrap w64 (number_at s.now.indices k -ℤ pos 1))) _ body braces less
+close_lessens n s (Upward k bound body ∷ braces) less = again_lessens n
+    (set_index s k (int_wrap w64 (number_at s.now.indices k +ℤ pos 1))) _ body braces less
+close_lessens n s (Downward k body ∷ braces) less = again_lessens n
+    (set_index s k (int_wrap w64 (number_at s.now.indices k -ℤ pos 1))) _ body braces less
 close_lessens n s (Forever body ∷ braces) less = tt
 
 else_lessens : (n : ℕ) (s : State) → left_over s < n → Lessens n (else_line s)
@@ -187,28 +206,40 @@ block_lessens n s (block.SameTexts m k) less = given_lessens n _ _ (λ x. less)
 block_lessens n s (block.Grow r a) less = given_lessens n _ _ (λ x. less)
 block_lessens n s (block.Free r) less = given_lessens n _ _ (λ x. less)
 
-entry_lessens : (n : ℕ) (s : State) (function : Function) (arguments : List Argument) (b : Bool) → Lessens n (if b then machine.turn (machine.enter s function arguments) else Ends (Stuck stuck.WrongCall))
+entry_lessens : (n : ℕ) (s : State) (function : Function) (arguments : List Argument) (b : Bool) →
+    Lessens n (if b then machine.turn (machine.enter s function arguments) else Ends (Stuck stuck.WrongCall))
 entry_lessens n s function arguments true = tt
 entry_lessens n s function arguments false = tt
 
-enter_lessens : (n : ℕ) (s : State) (function : Option Function) (arguments : List Argument) → Lessens n (enter_if s function arguments)
+enter_lessens : (n : ℕ) (s : State) (function : Option Function) (arguments : List Argument) →
+    Lessens n (enter_if s function arguments)
 enter_lessens n s None arguments = tt
-enter_lessens n s (Some function) arguments = entry_lessens n s function arguments (machine.match_letters arguments function.parameters)
+enter_lessens n s (Some function) arguments = entry_lessens n s function arguments
+    (machine.match_letters arguments function.parameters)
 
-usable_lessens : (n : ℕ) (s : State) (function : Option Function) (arguments : List Argument) (b : Bool) → Lessens n (if b then enter_if s function arguments else Ends (Stuck stuck.NoBlock))
+usable_lessens : (n : ℕ) (s : State) (function : Option Function) (arguments : List Argument) (b : Bool) →
+    Lessens n (if b then enter_if s function arguments else Ends (Stuck stuck.NoBlock))
 usable_lessens n s function arguments true = enter_lessens n s function arguments
 usable_lessens n s function arguments false = tt
 
-call_lessens : (functions : List Function) (n : ℕ) (s : State) (m : ℕ) (arguments : List Argument) → Lessens n (call_line functions s m arguments)
+call_lessens : (functions : List Function) (n : ℕ) (s : State) (m : ℕ) (arguments : List Argument) →
+    Lessens n (call_line functions s m arguments)
 unfolding call_line
 call_lessens functions n s m arguments = usable_lessens n s (callable functions m) arguments (list_all (is_usable s) arguments)
 
-control_lessens : (functions : List Function) (n : ℕ) (s : State) (r : ControlRow) → left_over s < n → Lessens n (control_line functions s r)
+control_lessens : (functions : List Function) (n : ℕ) (s : State) (r : ControlRow) → left_over s < n →
+    Lessens n (control_line functions s r)
 unfolding control_line break_line continue_line at_line leave
 control_lessens functions n s control.Break less =
     let place = loop_end s.now.braces (exits s.now.rest) in
-    omega (arith, length_rest place.lines, loop_end_short (length s.now.rest) s.now.braces (exits s.now.rest) (exits_short s.now.rest))
-control_lessens functions n s control.Continue less = omega (arith, loop_end_short (length s.now.rest) s.now.braces (exits s.now.rest) (exits_short s.now.rest))
+    omega (
+      arith,
+      length_rest place.lines,
+      loop_end_short (length s.now.rest) s.now.braces (exits s.now.rest)
+          (exits_short s.now.rest),
+    )
+control_lessens functions n s control.Continue less =
+    omega (arith, loop_end_short (length s.now.rest) s.now.braces (exits s.now.rest) (exits_short s.now.rest))
 control_lessens functions n s control.Return less = leave_more s s.callers n (omega arith)
 control_lessens functions n s (control.Call m arguments) less = call_lessens functions n s m arguments
 control_lessens functions n s control.Stop less = tt
@@ -231,7 +262,8 @@ row_lessens functions n s (row.Block r) less = block_lessens n s r less
 row_lessens functions n s (row.Control r) less = control_lessens functions n s r less
 row_lessens functions n s (row.Record r) less = record_lessens n s r less
 
-line_lessens : (functions : List Function) (n : ℕ) (s : State) (line : CodeLine) → left_over s < n → Lessens n (do_line functions s line)
+line_lessens : (functions : List Function) (n : ℕ) (s : State) (line : CodeLine) → left_over s < n →
+    Lessens n (do_line functions s line)
 unfolding do_line forever_line
 line_lessens functions n s (code.Row r) less = row_lessens functions n s r less
 line_lessens functions n s (code.If test) less = if_lessens n s (atom_of s test) less
@@ -241,7 +273,8 @@ line_lessens functions n s (code.ForDown k bound) less = for_down_lessens n s k 
 line_lessens functions n s code.Forever less = tt
 line_lessens functions n s code.Close less = close_lessens n s s.now.braces less
 
-at_lessens : (functions : List Function) (s : State) (rest : List CodeLine) → s.now.rest ≡ rest → Lessens (left_over s) (step_at functions s rest)
+at_lessens : (functions : List Function) (s : State) (rest : List CodeLine) → s.now.rest ≡ rest →
+    Lessens (left_over s) (step_at functions s rest)
 unfolding step_at leave
 at_lessens functions s [] e = back_lessens s s.callers
 at_lessens functions s (line ∷ lines) e =

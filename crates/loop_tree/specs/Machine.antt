@@ -1,5 +1,6 @@
 -- One step of a LoopC program: one case for each row of the grammar.
-use Rattle.std.specs.Prelude.{ℕ, zero, suc, ℤ, pos, ◌+ℤ◌, ◌-ℤ◌, Bool, true, false, ◌&&◌, int_lt, int_le, if◌then◌else◌, List, [], ◌∷◌, ◌++◌, map, drop, slice_get, Option, Some, None, Result, Ok, Err}
+use Rattle.std.specs.Prelude.{ℕ, zero, suc, ℤ, pos, ◌+ℤ◌, ◌-ℤ◌, Bool, true, false, ◌&&◌, int_lt, int_le, if◌then◌else◌, List, []}
+use Rattle.std.specs.Prelude.{◌∷◌, ◌++◌, map, drop, slice_get, Option, Some, None, Result, Ok, Err}
 use Rattle.std.specs.Int.{w64, int_wrap}
 use Rattle.std.specs.List.{list_all}
 use Rattle.a95_base.specs.declared.scalar.Scalar.{Scalar}
@@ -33,8 +34,11 @@ use Rattle.loop_tree.specs.declared.tree.CodeLine.{CodeLine}
 use Rattle.loop_tree.specs.declared.tree.CodeLine.TheVariants as code
 use Rattle.loop_tree.specs.declared.tree.Function.{Function}
 use Rattle.loop_tree.specs.Lines.{lines_of}
-use Rattle.loop_tree.specs.State.{Brace, Choice, Upward, Downward, Forever, Cells, Ints, Texts, Block, Frame, State, Comes, Stuck, Next, Goes, Ends, with_frame, with_rest, with_place, set_int, set_index, set_text, set_int_block, set_text_block, cells_at, with_cells, without, made_before, with_new_block, with_blocks}
-use Rattle.loop_tree.specs.Values.{number_at, block_at, atom_of, text_of, block_of, holds, and_then, ints_of, texts_of, stored, zeros, texts_of_length, grown, is_live, int_value, text_value}
+use Rattle.loop_tree.specs.State.{Brace, Choice, Upward, Downward, Forever, Cells, Ints, Texts, Block, Frame, State, Comes, Stuck}
+use Rattle.loop_tree.specs.State.{Next, Goes, Ends, with_frame, with_rest, with_place, set_int, set_index, set_text, set_int_block}
+use Rattle.loop_tree.specs.State.{set_text_block, cells_at, with_cells, without, made_before, with_new_block, with_blocks}
+use Rattle.loop_tree.specs.Values.{number_at, block_at, atom_of, text_of, block_of, holds, and_then, ints_of, texts_of, stored}
+use Rattle.loop_tree.specs.Values.{zeros, texts_of_length, grown, is_live, int_value, text_value}
 
 -- a step that begins no turn and writes nothing
 abbrev pub quiet : State → Next
@@ -139,8 +143,10 @@ down_again s k body braces = again s (int_le (pos 0) (number_at s.now.indices k)
 unfoldable pub close_line : State → List Brace → Next
 close_line s [] = leave s
 close_line s (Choice ∷ braces) = quiet (with_place s s.now.rest braces)
-close_line s (Upward k bound body ∷ braces) = up_again (set_index s k (int_wrap w64 (number_at s.now.indices k +ℤ pos 1))) k bound body braces
-close_line s (Downward k body ∷ braces) = down_again (set_index s k (int_wrap w64 (number_at s.now.indices k -ℤ pos 1))) k body braces
+close_line s (Upward k bound body ∷ braces) = up_again (set_index s k (int_wrap w64 (number_at s.now.indices k +ℤ pos 1))) k bound
+    body braces
+close_line s (Downward k body ∷ braces) = down_again (set_index s k (int_wrap w64 (number_at s.now.indices k -ℤ pos 1))) k body
+    braces
 close_line s (Forever body ∷ braces) = turn (with_rest s body)
 
 -- the branch behind ELSE is passed over
@@ -165,7 +171,8 @@ text_line s n value = given (text_value s value) (set_text s n)
 -- a block's cells after a row, where the block lives
 abbrev pub changed : List Block → Option ℕ → (Cells → Result Cells StuckState) → Result (List Block) StuckState
 changed blocks None change = Err stuck.NoBlock
-changed blocks (Some n) change = and_then (cells_at blocks (Some n)) (λ cells. and_then (change cells) (λ new. Ok (with_cells blocks n new)))
+changed blocks (Some n) change = and_then (cells_at blocks (Some n))
+    (λ cells. and_then (change cells) (λ new. Ok (with_cells blocks n new)))
 
 abbrev pub store_int : ℤ → ℤ → Cells → Result Cells StuckState
 store_int i value cells = and_then (ints_of cells) (λ ints. and_then (stored ints i value) (λ new. Ok (Ints new)))
@@ -187,7 +194,8 @@ unfoldable pub new_ints_line : State → ℕ → ℤ → Next
 new_ints_line s n count = given (zeros count) (λ cells. set_int_block (with_new_block s cells) n (Some s.made))
 
 unfoldable pub new_texts_line : State → ℕ → ℤ → ℤ → Next
-new_texts_line s n count size = given (texts_of_length count size) (λ cells. set_text_block (with_new_block s cells) n (Some s.made))
+new_texts_line s n count size = given (texts_of_length count size)
+    (λ cells. set_text_block (with_new_block s cells) n (Some s.made))
 
 unfoldable pub same_ints_line : State → ℕ → Option ℕ → Next
 same_ints_line s n block = given (cells_at s.blocks block) (λ cells. set_int_block s n block)
@@ -274,7 +282,8 @@ enter s function arguments = record s { now = callee s function arguments; calle
 
 abbrev pub enter_if : State → Option Function → List Argument → Next
 enter_if s None arguments = Ends (Stuck stuck.WrongCall)
-enter_if s (Some function) arguments = if match_letters arguments function.parameters then turn (enter s function arguments) else Ends (Stuck stuck.WrongCall)
+enter_if s (Some function) arguments = if match_letters arguments function.parameters then turn (enter s function arguments) else
+    Ends (Stuck stuck.WrongCall)
 
 -- function 0 is not called
 abbrev pub callable : List Function → ℕ → Option Function
@@ -282,7 +291,8 @@ callable functions zero = None
 callable functions (suc n) = slice_get functions (suc n)
 
 unfoldable pub call_line : List Function → State → ℕ → List Argument → Next
-call_line functions s n arguments = if list_all (is_usable s) arguments then enter_if s (callable functions n) arguments else Ends (Stuck stuck.NoBlock)
+call_line functions s n arguments = if list_all (is_usable s) arguments then enter_if s (callable functions n) arguments else Ends
+    (Stuck stuck.NoBlock)
 
 -- ---- control
 

@@ -1,5 +1,6 @@
 -- What a running LoopC program consists of.
-use Rattle.std.specs.Prelude.{ℕ, zero, suc, ℤ, pos, ◌+◌, ◌==◌, Bool, not, nat_lt, if◌then◌else◌, List, [], ◌∷◌, map, filter, Option, Some, None, Result, Ok, Err}
+use Rattle.std.specs.Prelude.{ℕ, zero, suc, ℤ, pos, ◌+◌, ◌==◌, Bool, not, nat_lt, if◌then◌else◌, List, [], ◌∷◌, map, filter, Option}
+use Rattle.std.specs.Prelude.{Some, None, Result, Ok, Err}
 use Rattle.a95_base.specs.Outcome.{Stop}
 use Rattle.a95_base.specs.declared.scalar.Scalar.{Scalar}
 use Rattle.loop_tree.specs.declared.stuck.StuckState.{StuckState}

@@ -1,5 +1,6 @@
 -- The text of a LoopC program: how each row is spelled.
-use Rattle.std.specs.Prelude.{ℕ, ◌+◌, ◌/◌, ◌%◌, ◌==◌, Bool, not, ◌&&◌, nat_le, if◌then◌else◌, List, [], ◌∷◌, ◌++◌, map, codes, decimal}
+use Rattle.std.specs.Prelude.{ℕ, ◌+◌, ◌/◌, ◌%◌, ◌==◌, Bool, not, ◌&&◌, nat_le, if◌then◌else◌, List, [], ◌∷◌, ◌++◌, map, codes}
+use Rattle.std.specs.Prelude.{decimal}
 use Rattle.std.specs.List.{concat, flat_map}
 use Rattle.std.specs.Fmt.{signed_decimal}
 use Rattle.a95_base.specs.Fault.{fault_number}
@@ -138,7 +139,8 @@ block_row_text (block.New n a) = set_text_of (codes "b") n (call_text (codes "f_
 block_row_text (block.Temp n a) = set_text_of (codes "b") n (call_text (codes "f_temp") (atom_text a))
 block_row_text (block.Copy n a) = set_text_of (codes "b") n (call_text (codes "f_copy") (atom_text a))
 block_row_text (block.Mark n a) = set_text_of (codes "b") n (call_text (codes "f_mark") (atom_text a))
-block_row_text (block.NewText n a b) = set_text_of (codes "c") n (call_text (codes "f_new_text") (listed (atom_text a ∷ atom_text b ∷ [])))
+block_row_text (block.NewText n a b) = set_text_of (codes "c") n
+    (call_text (codes "f_new_text") (listed (atom_text a ∷ atom_text b ∷ [])))
 block_row_text (block.TempText n a) = set_text_of (codes "c") n (call_text (codes "f_temp_text") (atom_text a))
 block_row_text (block.CopyText n a) = set_text_of (codes "c") n (call_text (codes "f_copy_text") (atom_text a))
 block_row_text (block.SameInts n m) = set_text_of (codes "b") n (codes "b" ++ decimal m)
@@ -179,8 +181,12 @@ abbrev pub spell : CodeLine → List ℕ
 spell (code.Row r) = row_text r ++ codes ";"
 spell (code.If test) = concat (codes "if (" ∷ atom_text test ∷ codes ") {" ∷ [])
 spell code.Else = codes "} else {"
-spell (code.ForUp k bound) = concat (codes "for (" ∷ loop_text k ∷ codes " = 0; " ∷ loop_text k ∷ codes " < " ∷ atom_text bound ∷ codes "; " ∷ loop_text k ∷ codes " = " ∷ loop_text k ∷ codes " + 1) {" ∷ [])
-spell (code.ForDown k bound) = concat (codes "for (" ∷ loop_text k ∷ codes " = " ∷ atom_text bound ∷ codes " - 1; " ∷ loop_text k ∷ codes " >= 0; " ∷ loop_text k ∷ codes " = " ∷ loop_text k ∷ codes " - 1) {" ∷ [])
+spell (code.ForUp k bound) =
+    concat (codes "for (" ∷ loop_text k ∷ codes " = 0; " ∷ loop_text k ∷ codes " < " ∷ atom_text bound ∷ codes "; " ∷ loop_text k
+    ∷ codes " = " ∷ loop_text k ∷ codes " + 1) {" ∷ [])
+spell (code.ForDown k bound) =
+    concat (codes "for (" ∷ loop_text k ∷ codes " = " ∷ atom_text bound ∷ codes " - 1; " ∷ loop_text k ∷ codes " >= 0; "
+    ∷ loop_text k ∷ codes " = " ∷ loop_text k ∷ codes " - 1) {" ∷ [])
 spell code.Forever = codes "while (1) {"
 spell code.Close = codes "}"
 
@@ -199,7 +205,8 @@ parameters_text j (p ∷ parameters) = (letter_text p ++ decimal j) ∷ paramete
 
 -- the line that begins function n
 abbrev pub function_head : ℕ → List Letter → List ℕ
-function_head n parameters = concat (codes "void f" ∷ decimal n ∷ codes "(" ∷ listed (parameters_text 0 parameters) ∷ codes ") {" ∷ [])
+function_head n parameters =
+    concat (codes "void f" ∷ decimal n ∷ codes "(" ∷ listed (parameters_text 0 parameters) ∷ codes ") {" ∷ [])
 
 abbrev pub function_lines : ℕ → Function → List (List ℕ)
 function_lines n function = function_head n function.parameters ∷ map spell (lines_of function)

@@ -1,5 +1,7 @@
 -- What a row reads: a value, or the stuck state.
-use Rattle.std.specs.Prelude.{ℕ, ℤ, pos, negsuc, ◌+ℤ◌, ◌-ℤ◌, ◌*ℤ◌, ◌+◌, ◌-◌, Bool, true, false, not, ◌&&◌, nat_lt, nat_le, int_lt, int_le, int_div, int_rem, if◌then◌else◌, List, [], ◌∷◌, ◌++◌, length, get_or, set, replicate, Option, None, Result, Ok, Err}
+use Rattle.std.specs.Prelude.{ℕ, ℤ, pos, negsuc, ◌+ℤ◌, ◌-ℤ◌, ◌*ℤ◌, ◌+◌, ◌-◌, Bool, true, false, not, ◌&&◌, nat_lt, nat_le, int_lt}
+use Rattle.std.specs.Prelude.{int_le, int_div, int_rem, if◌then◌else◌, List, [], ◌∷◌, ◌++◌, length, get_or, set, replicate, Option}
+use Rattle.std.specs.Prelude.{None, Result, Ok, Err}
 use Rattle.std.specs.Int.{w64, int_wrap, int_bit_and, int_bit_or, int_bit_xor}
 use Rattle.std.specs.Ordering.{int_eq}
 use Rattle.std.specs.Option.{ok_or}
@@ -161,7 +163,8 @@ abbrev pub zeros : ℤ → Result Cells StuckState
 zeros count = and_then (size_within largest count) (λ n. Ok (Ints (replicate n (pos 0))))
 
 abbrev pub texts_of_length : ℤ → ℤ → Result Cells StuckState
-texts_of_length count size = and_then (size_within largest count) (λ n. and_then (size_within longest_text size) (λ m. Ok (Texts (replicate n (replicate m 32)))))
+texts_of_length count size = and_then (size_within largest count)
+    (λ n. and_then (size_within longest_text size) (λ m. Ok (Texts (replicate n (replicate m 32)))))
 
 -- ---- texts
 
@@ -173,7 +176,8 @@ order_number Greater = pos 1
 
 -- the bytes from one place to another: none where the first is greater, else both are within the text
 abbrev pub sub_within : List ℕ → ℤ → ℤ → Result (List ℕ) StuckState
-sub_within text (pos from) (pos to) = if nat_le 1 from && nat_le to (length text) then Ok (part_of text from to) else Err stuck.OutsideText
+sub_within text (pos from) (pos to) = if nat_le 1 from && nat_le to (length text) then Ok (part_of text from to) else Err
+    stuck.OutsideText
 sub_within text (pos from) (negsuc to) = Err stuck.OutsideText
 sub_within text (negsuc from) to = Err stuck.OutsideText
 
@@ -182,7 +186,8 @@ sub text from to = if int_lt to from then Ok [] else sub_within text from to
 
 -- the bytes from a place on replaced: they are within the text, or there are none
 abbrev pub replaced_within : List ℕ → ℤ → List ℕ → Result (List ℕ) StuckState
-replaced_within text (pos from) new = if nat_le 1 from && nat_le (from - 1 + length new) (length text) then Ok (over text from new) else Err stuck.OutsideText
+replaced_within text (pos from) new = if nat_le 1 from && nat_le (from - 1 + length new) (length text) then Ok (over text from new)
+    else Err stuck.OutsideText
 replaced_within text (negsuc from) new = Err stuck.OutsideText
 
 abbrev pub replaced : List ℕ → ℤ → List ℕ → Result (List ℕ) StuckState

@@ -1,7 +1,8 @@
 //! Every row is in range: its numbers are of 32 and 64 bits, and its texts are of bytes. These functions only read a row,
 //! so that whoever holds one knows what `specs/Program.antt` asks of its numbers.
 
-ghost use Rattle.loop_tree.specs.Program.{AreBytes, FitsAtom, FitsText, FitsReference, FitsArgument, FitsArguments, FitsInt, FitsWords, FitsBlock, FitsControl, FitsRecord, FitsRow, FitsNumber};
+ghost use Rattle.loop_tree.specs.Program.{AreBytes, FitsAtom, FitsText, FitsReference, FitsArgument, FitsArguments, FitsInt};
+ghost use Rattle.loop_tree.specs.Program.{FitsWords, FitsBlock, FitsControl, FitsRecord, FitsRow, FitsNumber};
 
 use crate::atom::{Argument, Atom, Reference, TextAtom};
 use crate::row::{BlockRow, ControlRow, IntValue, RecordRow, Row, TextValue};

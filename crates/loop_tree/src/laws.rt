@@ -1,6 +1,7 @@
 //! Laws of runs, for the layers above: each is the contract of a function that does nothing.
 
-ghost use Rattle.loop_tree.specs.RunLaws.{OneOutcome, EndStays, OutputGrows, TurnsAdd, SomeOutcome, WaysJoin, WaysMeet, EndIsLast, TurnIsCounted, StatementsPass};
+ghost use Rattle.loop_tree.specs.RunLaws.{OneOutcome, EndStays, OutputGrows, TurnsAdd, SomeOutcome, WaysJoin, WaysMeet, EndIsLast};
+ghost use Rattle.loop_tree.specs.RunLaws.{TurnIsCounted, StatementsPass};
 
 /// A program has at most one outcome within a number of turns.
 pub fn one_outcome()

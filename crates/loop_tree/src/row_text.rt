@@ -1,7 +1,9 @@
 //! How rows and lines are written: `Display` gives the spelling of `specs/Text.antt`.
 
 ghost use Rattle.std.specs.Prelude.{Some, decimal};
-ghost use Rattle.loop_tree.specs.Text.{atom_text, text_atom_text, reference_text, argument_text, listed, listed_by, call_text, set_text_of, int_value_text, text_value_text, block_row_text, control_row_text, record_row_text, row_text, spell};
+ghost use Rattle.loop_tree.specs.Text.{atom_text, text_atom_text, reference_text, argument_text, listed, listed_by, call_text};
+ghost use Rattle.loop_tree.specs.Text.{set_text_of, int_value_text, text_value_text, block_row_text, control_row_text};
+ghost use Rattle.loop_tree.specs.Text.{record_row_text, row_text, spell};
 
 use crate::atom::{Argument, Atom, Reference, TextAtom};
 use crate::row::{BlockRow, ControlRow, IntValue, RecordRow, Row, TextValue};

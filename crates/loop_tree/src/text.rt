@@ -1,7 +1,8 @@
 //! How atoms and rows are written: `Display` gives the spelling of `specs/Text.antt`.
 
 ghost use Rattle.std.specs.Prelude.{◌≡◌, Some};
-ghost use Rattle.loop_tree.specs.Text.{atom_text, text_atom_text, reference_text, argument_text, operator_text, letter_text, is_plain, byte_text, bytes_text};
+ghost use Rattle.loop_tree.specs.Text.{atom_text, text_atom_text, reference_text, argument_text, operator_text, letter_text};
+ghost use Rattle.loop_tree.specs.Text.{is_plain, byte_text, bytes_text};
 
 use crate::atom::{Argument, Atom, Letter, Operator, Reference, TextAtom};
 use std::fmt::{self, Display};

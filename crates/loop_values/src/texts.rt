@@ -1,7 +1,8 @@
 //! The built-ins on texts. Places are counted from 1.
 ghost use Rattle.std.specs.Prelude.{◌≡◌, ◌≤◌, [], ◌++◌, pos, length, IfOk};
 ghost use Rattle.std.specs.Option.{ok_or};
-ghost use Rattle.a95_base.specs.Text.{compare_padded, first_place, fit, code_of, char_of, part_of, trim, trim_front, adjust_left, adjust_right};
+ghost use Rattle.a95_base.specs.Text.{compare_padded, first_place, fit, code_of, char_of, part_of, trim, trim_front, adjust_left};
+ghost use Rattle.a95_base.specs.Text.{adjust_right};
 ghost use Rattle.loop_tree.specs.declared.stuck.StuckState.TheVariants.{OutsideText, NoByte};
 ghost use Rattle.loop_tree.specs.Values.{order_number, sub, replaced, fitted};
 ghost use Rattle.loop_heap.specs.Halts.{Yields};

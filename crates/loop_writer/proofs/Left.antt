@@ -32,7 +32,8 @@ part_then old mid new held part after before f g = record {
 pub stops_here : (old new : Option (List ℕ)) (held before more : List ℕ) → Leaves old new held before
     → AppendsPrefix old new (before ++ more)
 stops_here old new held before more f =
-    front_more old new before more (subst (AppendsPrefix old new) f.is (front_more old new f.put held (whole_front old new f.put f.appended)))
+    front_more old new before more
+    (subst (AppendsPrefix old new) f.is (front_more old new f.put held (whole_front old new f.put f.appended)))
 
 -- what breaks off within the next part
 pub part_breaks : (old mid new : Option (List ℕ)) (held part before more : List ℕ) → Leaves old mid held before
@@ -46,4 +47,5 @@ part_breaks old mid new held part before more f g =
 pub last_put : (old mid new : Option (List ℕ)) (held part before : List ℕ) → Leaves old mid held before
     → Appends mid new (held ++ part) → Appends old new (before ++ part)
 last_put old mid new held part before f a =
-    subst (Appends old new) (sym (append_assoc f.put held part) ∙ ap (λ (l : List ℕ). l ++ part) f.is) (Appends-trans old mid new f.put (held ++ part) f.appended a)
+    subst (Appends old new) (sym (append_assoc f.put held part) ∙ ap (λ (l : List ℕ). l ++ part) f.is)
+    (Appends-trans old mid new f.put (held ++ part) f.appended a)

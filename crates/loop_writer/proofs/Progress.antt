@@ -1,5 +1,6 @@
 -- Pieces that are given one after another make a program of the grammar.
-use Rattle.std.proofs.Common.{◌≡◌, ℕ, ◌+◌, ◌≤◌, ◌^◌, Bool, true, false, List, [], ◌∷◌, ◌++◌, length, refl, ap, ◌∙◌, sym, subst, arith, append_assoc, append-nil}
+use Rattle.std.proofs.Common.{◌≡◌, ℕ, ◌+◌, ◌≤◌, ◌^◌, Bool, true, false, List, [], ◌∷◌, ◌++◌, length, refl, ap, ◌∙◌, sym, subst}
+use Rattle.std.proofs.Common.{arith, append_assoc, append-nil}
 use Rattle.std.specs.Prelude.{Option, Some, None}
 use Rattle.std.specs.List.{AllByRecursion}
 use Rattle.loop_tree.specs.declared.tree.Stmt.{Stmt}
@@ -50,7 +51,9 @@ abbrev pub one_more : (all left next : List Piece) (n m : ℕ) (piece : Piece) �
     → FitsPiece piece → m ≡ count_behind n piece → (n ≤ 2 ^ 32 → m ≤ 2 ^ 32) → Progress all next m
 one_more all left next n m piece p is fits e few = record {
   given = p.given ++ piece ∷ [];
-  is = p.is ∙ ap (λ (l : List Piece). Begin [] ∷ l) (ap (λ (l : List Piece). p.given ++ l) is ∙ sym (append_assoc p.given (piece ∷ []) next));
+  is = p.is
+      ∙ ap (λ (l : List Piece). Begin [] ∷ l)
+      (ap (λ (l : List Piece). p.given ++ l) is ∙ sym (append_assoc p.given (piece ∷ []) next));
   fits = fit_more p.given piece p.fits fits;
   count = e ∙ count_more 1 n p.given piece p.count;
   few = few p.few;
@@ -61,7 +64,14 @@ one_more all left next n m piece p is fits e few = record {
 -- a body that stands in no loop, with all the room that a function's body has
 lifted : (body : Body) → IsBody body → body.in_loop ≡ false
     → IsBody (record { statements = body.statements; room = 999; in_loop = false })
-lifted body is out = record { numbers = is.numbers; loops = λ e. sym out ∙ is.loops e; braces = omega (arith, is.braces, is.room); room = omega arith }
+lifted body is out =
+    record {
+      numbers = is.numbers;
+      loops = λ e. sym out ∙ is.loops e;
+      braces = omega (arith, is.braces, is.room);
+      room =
+          omega arith;
+    }
 
 abbrev outer : List Stmt → Body
 outer body = record { statements = body; room = 999; in_loop = false }
@@ -81,20 +91,31 @@ is_false false h = refl
 each_is : (given : List Piece) → FitPieces given → AllByRecursion IsFunction (functions_of given)
 each_is [] f = tt
 each_is (Begin parameters ∷ given) f =
-    let body = body_is given f.1 in
-    (record { parameters = f.0; numbers = body.numbers; loops = is_false (some_leaves (body_of given)) body.loops; braces = omega (arith, body.braces) }, each_is given f.1)
+    let body = body_is given f.1 in (
+      record {
+        parameters = f.0;
+        numbers = body.numbers;
+        loops = is_false (some_leaves (body_of given)) body.loops;
+        braces =
+            omega (arith, body.braces);
+      },
+      each_is given f.1,
+    )
 each_is (Code code ∷ given) f = each_is given f.1
 
 given_program : (given : List Piece) → FitPieces given → 1 + length (functions_of given) ≤ 2 ^ 32
     → IsProgram (functions_of (Begin [] ∷ given))
-given_program given f few = record { some = omega arith; count = omega (arith, few); main = refl; each = each_is (Begin [] ∷ given) (omega arith, f) }
+given_program given f few =
+    record { some = omega arith; count = omega (arith, few); main = refl; each = each_is (Begin [] ∷ given) (omega arith, f) }
 
 -- what was given is a program
 pub so_far : (all left : List Piece) (n : ℕ) → (p : Progress all left n) → IsProgram (functions_of (Begin [] ∷ p.given))
 so_far all left n p = given_program p.given p.fits (omega (arith, p.count, p.few))
 
 pub all_given : (all left : List Piece) (n : ℕ) → (p : Progress all left n) → left ≡ [] → all ≡ Begin [] ∷ p.given
-all_given all left n p none = p.is ∙ ap (λ (l : List Piece). Begin [] ∷ l) (ap (λ (l : List Piece). p.given ++ l) none ∙ append-nil p.given)
+all_given all left n p none = p.is ∙ ap (λ (l : List Piece). Begin [] ∷ l)
+    (ap (λ (l : List Piece). p.given ++ l) none ∙ append-nil p.given)
 
 pub is_program : (all left : List Piece) (n : ℕ) → Progress all left n → left ≡ [] → IsProgram (functions_of all)
-is_program all left n p none = subst (λ (l : List Piece). IsProgram (functions_of l)) (sym (all_given all left n p none)) (so_far all left n p)
+is_program all left n p none = subst (λ (l : List Piece). IsProgram (functions_of l)) (sym (all_given all left n p none))
+    (so_far all left n p)

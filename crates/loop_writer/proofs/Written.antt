@@ -27,15 +27,18 @@ begins bytes all left held is e = record {
 
 module _ (all left : List Piece) (n : ℕ) (old mid : Option (List ℕ)) (held : List ℕ) (w : Written all left n old mid held) where
   whole_is : text_of_program (functions_of all) ≡ text_before w.progress.given ++ pieces_text n left
-  whole_is = ap (λ (l : List Piece). text_of_program (functions_of l)) w.progress.is ∙ text_parts n w.progress.given left w.progress.count
+  whole_is = ap (λ (l : List Piece). text_of_program (functions_of l)) w.progress.is
+      ∙ text_parts n w.progress.given left w.progress.count
 
   so_far_is : text_of_program (functions_of (Begin [] ∷ w.progress.given)) ≡ text_before w.progress.given ++ end_text
   so_far_is =
-      ap (λ (l : List Piece). text_of_program (functions_of (Begin [] ∷ l))) (sym (append-nil w.progress.given)) ∙ text_parts n w.progress.given [] w.progress.count
+      ap (λ (l : List Piece). text_of_program (functions_of (Begin [] ∷ l))) (sym (append-nil w.progress.given))
+      ∙ text_parts n w.progress.given [] w.progress.count
 
   -- nothing more is written
   pub stops : AppendsPrefix old mid (text_of_program (functions_of all))
-  stops = subst (AppendsPrefix old mid) (sym whole_is) (stops_here old mid held (text_before w.progress.given) (pieces_text n left) w.text)
+  stops = subst (AppendsPrefix old mid) (sym whole_is)
+      (stops_here old mid held (text_before w.progress.given) (pieces_text n left) w.text)
 
   pub stops_cut : IsCutOff old mid all
   stops_cut = record {
@@ -47,7 +50,8 @@ module _ (all left : List Piece) (n : ℕ) (old mid : Option (List ℕ)) (held :
   }
 
   -- one more piece is put behind what is held
-  module _ (next : List Piece) (piece : Piece) (m : ℕ) (is : left ≡ piece ∷ next) (fits : FitsPiece piece) (count : m ≡ count_behind n piece) (few : n ≤ 2 ^ 32 → m ≤ 2 ^ 32)
+  module _ (next : List Piece) (piece : Piece) (m : ℕ) (is : left ≡ piece ∷ next) (fits : FitsPiece piece)
+      (count : m ≡ count_behind n piece) (few : n ≤ 2 ^ 32 → m ≤ 2 ^ 32)
       (longer : List ℕ) (put : longer ≡ held ++ piece_text n piece) where
     abbrev more : Progress all next m
     more = one_more all left next n m piece w.progress is fits count few
@@ -59,19 +63,22 @@ module _ (all left : List Piece) (n : ℕ) (old mid : Option (List ℕ)) (held :
     goes_on new after f = record {
       progress = more;
       text = subst (Leaves old new after) before_is
-          (part_then old mid new held (piece_text n piece) after (text_before w.progress.given) w.text (subst (Leaves mid new after) put f));
+          (part_then old mid new held (piece_text n piece) after (text_before w.progress.given) w.text
+          (subst (Leaves mid new after) put f));
     }
 
     breaks : (new : Option (List ℕ)) (rest : List ℕ) → BreaksOff mid new longer
         → AppendsPrefix old new (text_before more.given ++ rest)
     breaks new rest f =
         subst (λ (l : List ℕ). AppendsPrefix old new (l ++ rest)) before_is
-        (part_breaks old mid new held (piece_text n piece) (text_before w.progress.given) rest w.text (subst (BreaksOff mid new) put f))
+        (part_breaks old mid new held (piece_text n piece) (text_before w.progress.given) rest w.text
+        (subst (BreaksOff mid new) put f))
 
     pub breaks_in_piece : (new : Option (List ℕ)) → BreaksOff mid new longer
         → AppendsPrefix old new (text_of_program (functions_of all))
     breaks_in_piece new f =
-        subst (AppendsPrefix old new) (sym (ap (λ (l : List Piece). text_of_program (functions_of l)) more.is ∙ text_parts m more.given next more.count))
+        subst (AppendsPrefix old new)
+        (sym (ap (λ (l : List Piece). text_of_program (functions_of l)) more.is ∙ text_parts m more.given next more.count))
         (breaks new (pieces_text m next) f)
 
     pub cut_in_piece : (new : Option (List ℕ)) → BreaksOff mid new longer → IsCutOff old new all
@@ -81,7 +88,8 @@ module _ (all left : List Piece) (n : ℕ) (old mid : Option (List ℕ)) (held :
       is = more.is;
       program = so_far all next m more;
       prefix = subst (AppendsPrefix old new)
-          (sym (ap (λ (l : List Piece). text_of_program (functions_of (Begin [] ∷ l))) (sym (append-nil more.given)) ∙ text_parts m more.given [] more.count))
+          (sym (ap (λ (l : List Piece). text_of_program (functions_of (Begin [] ∷ l))) (sym (append-nil more.given))
+          ∙ text_parts m more.given [] more.count))
           (breaks new end_text f);
     }
 

@@ -2,7 +2,8 @@
 
 ghost use Rattle.std.specs.Prelude.{◌≡◌, [], ◌∷◌, ◌++◌, IfOk, OnOk, string_bytes, codes};
 ghost use Rattle.loop_tree.specs.Lines.{flat, flats};
-ghost use Rattle.loop_tree.specs.Text.{function_head, function_lines, functions_lines, listed, parameters_text, text_of_program, with_line_feeds};
+ghost use Rattle.loop_tree.specs.Text.{function_head, function_lines, functions_lines, listed, parameters_text, text_of_program};
+ghost use Rattle.loop_tree.specs.Text.{with_line_feeds};
 ghost use Rattle.loop_writer.specs.Printed.{lines_text, others_text, statements_text};
 
 use a95_base::Memory;
@@ -115,7 +116,8 @@ fn put(out: &mut String, statement: &Stmt) -> Result<(), AllocError>
 /// A line that opens a brace, the statements behind it, and the brace that closes it.
 #[cycle(put)]
 fn put_block(out: &mut String, head: &CodeLine, body: &[Stmt]) -> Result<(), AllocError>
-    ensures { OnOk result (string_bytes out.new ≡ string_bytes out.old ++ lines_text (head.now ∷ (flats body.now ++ CodeLine.Close ∷ []))) }
+    ensures { OnOk result
+        (string_bytes out.new ≡ string_bytes out.old ++ lines_text (head.now ∷ (flats body.now ++ CodeLine.Close ∷ []))) }
 {
     write!(out, "{head}\n")?;
     put_all(out, body)?;

@@ -1,7 +1,8 @@
 -- Each row holds by computation.
 use Rattle.std.proofs.Common.{refl}
 use Rattle.a95_base.specs.Integer.{wrapped}
-use Rattle.names_types_rows.specs.Corners.{AssumedPrefix, HiddenSize, OwnModule, NearestModule, ConstantBounds, UndeclaredBound, PrefixBeforeUse, NoDummies, Keywords}
+use Rattle.names_types_rows.specs.Corners.{AssumedPrefix, HiddenSize, OwnModule, NearestModule, ConstantBounds, UndeclaredBound}
+use Rattle.names_types_rows.specs.Corners.{PrefixBeforeUse, NoDummies, Keywords}
 
 pub assumed_prefix_row : AssumedPrefix
 unfolding wrapped

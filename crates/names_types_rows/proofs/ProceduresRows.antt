@@ -1,7 +1,8 @@
 -- Each row holds by computation.
 use Rattle.std.proofs.Common.{refl}
 use Rattle.a95_base.specs.Integer.{wrapped}
-use Rattle.names_types_rows.specs.Procedures.{DummyAlone, IntentLater, ListedTwice, NoResult, TypedTwice, AssumedResult, OfTheHost, Bounds, Unread}
+use Rattle.names_types_rows.specs.Procedures.{DummyAlone, IntentLater, ListedTwice, NoResult, TypedTwice, AssumedResult, OfTheHost}
+use Rattle.names_types_rows.specs.Procedures.{Bounds, Unread}
 
 pub dummy_alone_row : DummyAlone
 unfolding wrapped

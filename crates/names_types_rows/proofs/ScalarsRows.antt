@@ -1,7 +1,8 @@
 -- Each row holds by computation.
 use Rattle.std.proofs.Common.{refl}
 use Rattle.a95_base.specs.Integer.{wrapped}
-use Rattle.names_types_rows.specs.Scalars.{Twice, Undeclared, Constants, TooEarly, OtherKind, Overflow, OneFault, CharRange, Constructors}
+use Rattle.names_types_rows.specs.Scalars.{Twice, Undeclared, Constants, TooEarly, OtherKind, Overflow, OneFault, CharRange}
+use Rattle.names_types_rows.specs.Scalars.{Constructors}
 
 pub twice_row : Twice
 unfolding wrapped

@@ -3,7 +3,9 @@ use Rattle.std.specs.Prelude.{◌≡◌, true, [], ◌∷◌, Some}
 use Rattle.a95_base.specs.Breaks.{broken_at}
 use Rattle.names_types.specs.Plain.{Integer, Character, Computed, Assumed, Upper, Deferred, Parameter, Allocatable, Source}
 use Rattle.names_types.specs.Listed.{breaks_of}
-use Rattle.names_types_rows.specs.Build.{number, truth, name, plus, times, over, call, keyed_call, scalar_entity, array_entity, initial_entity, declares, taken, uses, uses_only, mentions, part, subroutine, function, a_module, source, main, with_one}
+use Rattle.names_types_rows.specs.Build.{number, truth, name, plus, times, over, call, keyed_call, scalar_entity, array_entity}
+use Rattle.names_types_rows.specs.Build.{initial_entity, declares, taken, uses, uses_only, mentions, part, subroutine, function}
+use Rattle.names_types_rows.specs.Build.{a_module, source, main, with_one}
 
 -- 1 program p
 -- 2 contains

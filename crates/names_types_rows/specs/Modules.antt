@@ -3,7 +3,8 @@ use Rattle.std.specs.Prelude.{◌≡◌, [], ◌∷◌, Some}
 use Rattle.a95_base.specs.Breaks.{broken_at}
 use Rattle.names_types.specs.Plain.{Integer, Character, Computed, Upper, Deferred, Parameter, Source}
 use Rattle.names_types.specs.Listed.{breaks_of}
-use Rattle.names_types_rows.specs.Build.{number, name, call, scalar_entity, array_entity, initial_entity, declares, taken, uses, uses_only, mentions, part, subroutine, function, a_module, source}
+use Rattle.names_types_rows.specs.Build.{number, name, call, scalar_entity, array_entity, initial_entity, declares, taken, uses}
+use Rattle.names_types_rows.specs.Build.{uses_only, mentions, part, subroutine, function, a_module, source}
 
 -- 1 module life
 -- 2 contains

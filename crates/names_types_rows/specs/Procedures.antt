@@ -3,7 +3,8 @@ use Rattle.std.specs.Prelude.{◌≡◌, [], ◌∷◌, Some, None}
 use Rattle.a95_base.specs.Breaks.{broken_at}
 use Rattle.names_types.specs.Plain.{Integer, Upper, Deferred, Parameter, Allocatable, Source}
 use Rattle.names_types.specs.Listed.{breaks_of}
-use Rattle.names_types_rows.specs.Build.{number, name, over, call, scalar_entity, array_entity, initial_entity, declares, taken, given, mentions, part, subroutine, function, with_one}
+use Rattle.names_types_rows.specs.Build.{number, name, over, call, scalar_entity, array_entity, initial_entity, declares, taken}
+use Rattle.names_types_rows.specs.Build.{given, mentions, part, subroutine, function, with_one}
 
 -- 1 program p
 -- 2 contains

@@ -3,7 +3,8 @@ use Rattle.std.specs.Prelude.{◌≡◌, pos, true, [], ◌∷◌}
 use Rattle.a95_base.specs.Breaks.{broken_at}
 use Rattle.names_types.specs.Plain.{Integer, Logical, Character, Number, Upper, Parameter, Source}
 use Rattle.names_types.specs.Listed.{breaks_of}
-use Rattle.names_types_rows.specs.Build.{number, truth, name, plus, times, over, call, constructor, scalar_entity, array_entity, initial_entity, initial_array, declares, mentions, main}
+use Rattle.names_types_rows.specs.Build.{number, truth, name, plus, times, over, call, constructor, scalar_entity, array_entity}
+use Rattle.names_types_rows.specs.Build.{initial_entity, initial_array, declares, mentions, main}
 
 -- 1 program p
 -- 2 integer :: n, m

@@ -1,9 +1,11 @@
 -- Attributes, ranks, lengths and shapes of a main program.
 use Rattle.std.specs.Prelude.{◌≡◌, [], ◌∷◌}
 use Rattle.a95_base.specs.Breaks.{broken_at}
-use Rattle.names_types.specs.Plain.{Integer, Character, Computed, Assumed, Upper, Both, Deferred, Parameter, Allocatable, Dimension, Source}
+use Rattle.names_types.specs.Plain.{Integer, Character, Computed, Assumed, Upper, Both, Deferred, Parameter, Allocatable, Dimension}
+use Rattle.names_types.specs.Plain.{Source}
 use Rattle.names_types.specs.Listed.{breaks_of}
-use Rattle.names_types_rows.specs.Build.{number, text, name, plus, call, scalar_entity, array_entity, initial_entity, declares, taken, main}
+use Rattle.names_types_rows.specs.Build.{number, text, name, plus, call, scalar_entity, array_entity, initial_entity, declares}
+use Rattle.names_types_rows.specs.Build.{taken, main}
 
 -- 1 program p
 -- 2 integer, parameter :: n

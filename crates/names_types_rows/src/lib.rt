@@ -3,11 +3,14 @@
 //! stand in `specs/`, each below its text.
 #![tactic(auto)]
 
-ghost use Rattle.names_types_rows.specs.Scalars.{Twice, Undeclared, Constants, TooEarly, OtherKind, Overflow, OneFault, CharRange, Constructors};
+ghost use Rattle.names_types_rows.specs.Scalars.{Twice, Undeclared, Constants, TooEarly, OtherKind, Overflow, OneFault, CharRange};
+ghost use Rattle.names_types_rows.specs.Scalars.{Constructors};
 ghost use Rattle.names_types_rows.specs.Shapes.{Attributes, EntityBoundsWin, Intended, Ranks, Lengths, KnownLengths, Sizes};
-ghost use Rattle.names_types_rows.specs.Procedures.{DummyAlone, IntentLater, ListedTwice, NoResult, TypedTwice, AssumedResult, OfTheHost, Bounds, Unread};
+ghost use Rattle.names_types_rows.specs.Procedures.{DummyAlone, IntentLater, ListedTwice, NoResult, TypedTwice, AssumedResult};
+ghost use Rattle.names_types_rows.specs.Procedures.{OfTheHost, Bounds, Unread};
 ghost use Rattle.names_types_rows.specs.Modules.{Life, BroughtAgain, BroughtTwice, NotAbove, ModuleVariable, PrefixOfUse};
-ghost use Rattle.names_types_rows.specs.Corners.{AssumedPrefix, HiddenSize, OwnModule, NearestModule, ConstantBounds, UndeclaredBound, PrefixBeforeUse, NoDummies, Keywords};
+ghost use Rattle.names_types_rows.specs.Corners.{AssumedPrefix, HiddenSize, OwnModule, NearestModule, ConstantBounds};
+ghost use Rattle.names_types_rows.specs.Corners.{UndeclaredBound, PrefixBeforeUse, NoDummies, Keywords};
 
 /// Names and constants of a main program, and what each program breaks.
 pub fn scalars_rows()

@@ -1,7 +1,10 @@
 -- Each row holds by computation.
 use Rattle.std.proofs.Common.{refl}
 use Rattle.nest_tree.proofs.Running.{running}
-use Rattle.nest_tree.specs.CallsRows.{modified_in_place, call_without_a_turn, elemental_reference, elemental_reference_waits, result_of_an_array, stop_in_a_procedure, no_such_procedure, dummy_without_actual, ModifiedInPlace, CallWithoutATurn, ElementalReference, ElementalReferenceWaits, ResultOfAnArray, StopInAProcedure, NoSuchProcedure, DummyWithoutActual}
+use Rattle.nest_tree.specs.CallsRows.{modified_in_place, call_without_a_turn, elemental_reference, elemental_reference_waits}
+use Rattle.nest_tree.specs.CallsRows.{result_of_an_array, stop_in_a_procedure, no_such_procedure, dummy_without_actual}
+use Rattle.nest_tree.specs.CallsRows.{ModifiedInPlace, CallWithoutATurn, ElementalReference, ElementalReferenceWaits}
+use Rattle.nest_tree.specs.CallsRows.{ResultOfAnArray, StopInAProcedure, NoSuchProcedure, DummyWithoutActual}
 
 pub modified_in_place_row : ModifiedInPlace
 unfolding running modified_in_place

@@ -1,7 +1,10 @@
 -- Each row holds by computation.
 use Rattle.std.proofs.Common.{refl}
 use Rattle.nest_tree.proofs.Running.{running}
-use Rattle.nest_tree.specs.ControlRows.{steps_of_four, turns_run_out, outer_loop_left, outer_turn_ended, branches, two_integers_read, input_at_its_end, input_without_integer, record_dropped_by_a_fault, StepsOfFour, TurnsRunOut, OuterLoopLeft, OuterTurnEnded, Branches, TwoIntegersRead, InputAtItsEnd, InputWithoutInteger, RecordDroppedByAFault}
+use Rattle.nest_tree.specs.ControlRows.{steps_of_four, turns_run_out, outer_loop_left, outer_turn_ended, branches}
+use Rattle.nest_tree.specs.ControlRows.{two_integers_read, input_at_its_end, input_without_integer, record_dropped_by_a_fault}
+use Rattle.nest_tree.specs.ControlRows.{StepsOfFour, TurnsRunOut, OuterLoopLeft, OuterTurnEnded, Branches, TwoIntegersRead}
+use Rattle.nest_tree.specs.ControlRows.{InputAtItsEnd, InputWithoutInteger, RecordDroppedByAFault}
 
 pub steps_of_four_row : StepsOfFour
 unfolding running steps_of_four

@@ -8,7 +8,8 @@ use Rattle.nest_tree.specs.Sound.{FitsFrame}
 use Rattle.nest_tree.specs.StoresRows.{whole_row}
 use Rattle.nest_tree.specs.ControlRows.{steps_of_four}
 use Rattle.nest_tree.specs.CallsRows.{elemental_reference}
-use Rattle.nest_tree.specs.FitsRows.{WholeRowFits, StepsOfFourFit, ElementalReferenceFits, value_stored, ValueStored, no_loop_left, NoLoopLeft, wrong_sort, WrongSort, passed_twice, PassedTwice}
+use Rattle.nest_tree.specs.FitsRows.{WholeRowFits, StepsOfFourFit, ElementalReferenceFits, value_stored, ValueStored, no_loop_left}
+use Rattle.nest_tree.specs.FitsRows.{NoLoopLeft, wrong_sort, WrongSort, passed_twice, PassedTwice}
 
 row_fits : (q : Procedure) → FitsFrame q (row 3)
 row_fits q = record { amounts = refl; ordered = skip 1 none; ranked = refl }

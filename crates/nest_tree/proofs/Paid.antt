@@ -6,7 +6,9 @@ use Rattle.a95_base.specs.declared.scalar.Scalar.{Scalar}
 use Rattle.a95_base.specs.Steps.{pure, stop, behind, ◌>>=◌, ◌>>◌}
 use Rattle.array_meaning.specs.State as source
 use Rattle.array_meaning.specs.State.{State, turn_from, turn}
-use Rattle.nest_tree.specs.State.{cells_of, NestState, Memory, memory_of, with_memory, Halt, By, Stray, Step, or_stray, at_line, found, given, sees, pick, changed_to, changes, by_source, lifted, within, enter, turns_left, joins, writes, back_to, inside}
+use Rattle.nest_tree.specs.State.{cells_of, NestState, Memory, memory_of, with_memory, Halt, By, Stray, Step, or_stray, at_line}
+use Rattle.nest_tree.specs.State.{found, given, sees, pick, changed_to, changes, by_source, lifted, within, enter, turns_left}
+use Rattle.nest_tree.specs.State.{joins, writes, back_to, inside}
 
 -- turns that are left and entries together
 abbrev pub sum : NestState → ℕ

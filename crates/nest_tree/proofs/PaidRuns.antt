@@ -15,7 +15,10 @@ use Rattle.nest_tree.specs.Statements.{Given, Caller, behind_turn, one_turn, rou
 use Rattle.array_meaning.specs.Run.{most_calls}
 use Rattle.nest_tree.specs.Run.{body_acts, entered, called, outcome_of, start, main_acts}
 use Rattle.nest_tree.specs.Counts.{TurnsArePaid}
-use Rattle.nest_tree.proofs.Paid.{PaidBy, Paid, paid_then, paid_next, paid_first, paid_entered, paid_spare, paid_pure, paid_stray, paid_stopped, paid_found, paid_given, paid_reads, paid_changes, paid_joins, paid_writes, paid_pick, Idle, paid_within, paid_turn, paid_inside, PaidUpTo, up_to, up_to_then, up_to_next, up_to_entered, up_to_pick, waits_up_to, up_to_turned, paid_turns_left}
+use Rattle.nest_tree.proofs.Paid.{PaidBy, Paid, paid_then, paid_next, paid_first, paid_entered, paid_spare, paid_pure, paid_stray}
+use Rattle.nest_tree.proofs.Paid.{paid_stopped, paid_found, paid_given, paid_reads, paid_changes, paid_joins, paid_writes}
+use Rattle.nest_tree.proofs.Paid.{paid_pick, Idle, paid_within, paid_turn, paid_inside, PaidUpTo, up_to, up_to_then, up_to_next}
+use Rattle.nest_tree.proofs.Paid.{up_to_entered, up_to_pick, waits_up_to, up_to_turned, paid_turns_left}
 use Rattle.nest_tree.proofs.Walk.{Walk, any, any_all, of_all}
 
 -- ---- steps of the source

@@ -6,5 +6,6 @@ use Rattle.nest_tree.specs.State.{found, given, sees, pick, changes, within, ent
 use Rattle.nest_tree.specs.Statements.{each_turn, loops, rounds, given_all}
 
 unfoldable pub running : Unit {0}
-unfolding pure stop behind ◌>>=◌ ◌>>◌ wrapped fault_at unless turn_from turn unread pass found given sees pick changes within enter turns_left joins writes inside each_turn loops rounds given_all
+unfolding pure stop behind ◌>>=◌ ◌>>◌ wrapped fault_at unless turn_from turn unread pass found given sees pick changes within enter
+    turns_left joins writes inside each_turn loops rounds given_all
 running = tt

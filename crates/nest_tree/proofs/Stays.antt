@@ -14,7 +14,9 @@ use Rattle.array_meaning.specs.Control.{Flow, Next, Exits, Cycles, Returns}
 use Rattle.nest_tree.specs.declared.access.Name.{Name}
 use Rattle.nest_tree.specs.declared.access.Name.TheVariants as name
 use Rattle.nest_tree.specs.Plain.{NestUnit}
-use Rattle.nest_tree.specs.State.{cells_of, NestState, Memory, memory_of, Halt, Step, found, given, sees, pick, changed_to, changes, within, enter, turns_left, joins, writes, inside, set_at, block_in, with_block, with_kept, with_list}
+use Rattle.nest_tree.specs.State.{cells_of, NestState, Memory, memory_of, Halt, Step, found, given, sees, pick, changed_to, changes}
+use Rattle.nest_tree.specs.State.{within, enter, turns_left, joins, writes, inside, set_at, block_in, with_block, with_kept}
+use Rattle.nest_tree.specs.State.{with_list}
 use Rattle.nest_tree.specs.Statements.{Given, behind_turn, one_turn, rounds}
 use Rattle.nest_tree.specs.Run.{called}
 use Rattle.nest_tree.specs.Frames.{Spot, ScalarAt, ListAt, ArrayAt, Is, SameAt, CalledApart, OthersStay}

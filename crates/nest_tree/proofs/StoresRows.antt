@@ -1,7 +1,14 @@
 -- Each row holds by computation.
 use Rattle.std.proofs.Common.{refl}
 use Rattle.nest_tree.proofs.Running.{running}
-use Rattle.nest_tree.specs.StoresRows.{whole_row, shifted_backwards, shifted_forwards, shifted_through_a_temporary, two_pieces_of_one_nest, outside_its_array, nothing_where_false, fault_at_its_line, no_elements_no_entries, columns_from_the_last, subscripts_from_a_list, freed_is_not_read, grown_and_given_a_shape, texts_padded_and_kept, exact_beyond_64_bits, WholeRow, ShiftedBackwards, ShiftedForwards, ShiftedThroughATemporary, TwoPiecesOfOneNest, OutsideItsArray, NothingWhereFalse, FaultAtItsLine, NoElementsNoEntries, ColumnsFromTheLast, SubscriptsFromAList, FreedIsNotRead, GrownAndGivenAShape, TextsPaddedAndKept, ExactBeyond64Bits}
+use Rattle.nest_tree.specs.StoresRows.{whole_row, shifted_backwards, shifted_forwards, shifted_through_a_temporary}
+use Rattle.nest_tree.specs.StoresRows.{two_pieces_of_one_nest, outside_its_array, nothing_where_false, fault_at_its_line}
+use Rattle.nest_tree.specs.StoresRows.{no_elements_no_entries, columns_from_the_last, subscripts_from_a_list, freed_is_not_read}
+use Rattle.nest_tree.specs.StoresRows.{grown_and_given_a_shape, texts_padded_and_kept, exact_beyond_64_bits, WholeRow}
+use Rattle.nest_tree.specs.StoresRows.{ShiftedBackwards, ShiftedForwards, ShiftedThroughATemporary, TwoPiecesOfOneNest}
+use Rattle.nest_tree.specs.StoresRows.{OutsideItsArray, NothingWhereFalse, FaultAtItsLine, NoElementsNoEntries, ColumnsFromTheLast}
+use Rattle.nest_tree.specs.StoresRows.{SubscriptsFromAList, FreedIsNotRead, GrownAndGivenAShape, TextsPaddedAndKept}
+use Rattle.nest_tree.specs.StoresRows.{ExactBeyond64Bits}
 
 pub whole_row_row : WholeRow
 unfolding running whole_row

@@ -11,7 +11,9 @@ use Rattle.array_meaning.specs.State.{State}
 use Rattle.array_meaning.specs.InputOutput.{record_of}
 use Rattle.array_meaning.proofs.Turns as plain
 use Rattle.array_meaning.proofs.Turns.{prefix_refl, prefix_trans}
-use Rattle.nest_tree.specs.State.{cells_of, NestState, Memory, memory_of, with_memory, Halt, By, Stray, Step, or_stray, at_line, found, given, sees, pick, changed_to, changes, lifted, within, enter, turns_left, joins, writes, back_to, inside}
+use Rattle.nest_tree.specs.State.{cells_of, NestState, Memory, memory_of, with_memory, Halt, By, Stray, Step, or_stray, at_line}
+use Rattle.nest_tree.specs.State.{found, given, sees, pick, changed_to, changes, lifted, within, enter, turns_left, joins, writes}
+use Rattle.nest_tree.specs.State.{back_to, inside}
 
 abbrev pub more : NestState → NestState
 more n = record n { cells = record n.cells { plain = plain.more n.cells.plain } }

@@ -13,9 +13,13 @@ use Rattle.nest_tree.specs.Plain.{Procedure, NestUnit}
 use Rattle.nest_tree.specs.State.{NestState, Halt, By, Stray, Step}
 use Rattle.nest_tree.specs.Statements.{Given, Caller, behind_turn, one_turn, rounds}
 use Rattle.array_meaning.specs.Run.{most_calls}
-use Rattle.nest_tree.specs.Run.{End, Strayed, body_acts, entered, called, outcome_of, start, main_acts, run_of, nest_run, as_end, as_nest, as_stop}
+use Rattle.nest_tree.specs.Run.{End, Strayed, body_acts, entered, called, outcome_of, start, main_acts, run_of, nest_run, as_end}
+use Rattle.nest_tree.specs.Run.{as_nest, as_stop}
 use Rattle.nest_tree.specs.RunLaws.{StaysBy, Stays, MoreTurns, DoesNotStray}
-use Rattle.nest_tree.proofs.Turns.{SameBy, Steady, Grows, grows_then, grows_next, steady_pure, steady_stray, steady_stopped, steady_found, steady_given, steady_reads, steady_changes, steady_enter, steady_joins, steady_writes, grows_pick, steady_within, tells_waits, grows_waits, steady_turns_left, grows_inside}
+use Rattle.nest_tree.proofs.Turns.{SameBy, Steady, Grows, grows_then, grows_next, steady_pure, steady_stray, steady_stopped}
+use Rattle.nest_tree.proofs.Turns.{steady_found, steady_given, steady_reads, steady_changes, steady_enter, steady_joins}
+use Rattle.nest_tree.proofs.Turns.{steady_writes, grows_pick, steady_within, tells_waits, grows_waits, steady_turns_left}
+use Rattle.nest_tree.proofs.Turns.{grows_inside}
 use Rattle.nest_tree.proofs.Walk.{Walk, any, any_all, of_all}
 
 -- ---- loops

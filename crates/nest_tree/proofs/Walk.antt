@@ -20,11 +20,21 @@ use Rattle.nest_tree.specs.declared.statement.Block.{Block}
 use Rattle.nest_tree.specs.declared.statement.Made.{Made}
 use Rattle.nest_tree.specs.declared.statement.Span.{Span}
 use Rattle.nest_tree.specs.declared.tree.Blank.{Blank}
-use Rattle.nest_tree.specs.Plain.{Tree, Literal, Number, Constant, Fixed, Read, Cell, Entry, Turn, Place, Asked, Unary, Binary, Exactly, Wrapped, Each, Trim, Len, Applied, Trees, no_tree, tree, Guard, Piece, Passed, Value, Whole, ResultIn, Statement, Set, Test, Store, StoreCell, Make, Grow, Rebound, Free, MakeList, StoreEntry, FreeList, Nest, If, While, Call, Put, Write, Take, Skip, Exit, Cycle, Return, Stop, Statements, no_statement, statement}
-use Rattle.nest_tree.specs.State.{cells_of, Memory, By, Stray, Step, on, where_holds, found, given, sees, pick, changes, within, enter, turns_left, joins, writes, block_in, with_block, with_kept, with_list}
-use Rattle.nest_tree.specs.Places.{amount, count_of, index_below, aimed, aimed_number, stored, block_with, stored_at, stored_cell, new_variable, made_with, made_block, grown_by, grown, may_be_made, are_as_many, blank_for, bounds_for, with_bounds, without_array, emptied, rebound, freed, made_list, stored_entry, freed_list}
+use Rattle.nest_tree.specs.Plain.{Tree, Literal, Number, Constant, Fixed, Read, Cell, Entry, Turn, Place, Asked, Unary, Binary}
+use Rattle.nest_tree.specs.Plain.{Exactly, Wrapped, Each, Trim, Len, Applied, Trees, no_tree, tree, Guard, Piece, Passed, Value}
+use Rattle.nest_tree.specs.Plain.{Whole, ResultIn, Statement, Set, Test, Store, StoreCell, Make, Grow, Rebound, Free, MakeList}
+use Rattle.nest_tree.specs.Plain.{StoreEntry, FreeList, Nest, If, While, Call, Put, Write, Take, Skip, Exit, Cycle, Return, Stop}
+use Rattle.nest_tree.specs.Plain.{Statements, no_statement, statement}
+use Rattle.nest_tree.specs.State.{cells_of, Memory, By, Stray, Step, on, where_holds, found, given, sees, pick, changes, within}
+use Rattle.nest_tree.specs.State.{enter, turns_left, joins, writes, block_in, with_block, with_kept, with_list}
+use Rattle.nest_tree.specs.Places.{amount, count_of, index_below, aimed, aimed_number, stored, block_with, stored_at, stored_cell}
+use Rattle.nest_tree.specs.Places.{new_variable, made_with, made_block, grown_by, grown, may_be_made, are_as_many, blank_for}
+use Rattle.nest_tree.specs.Places.{bounds_for, with_bounds, without_array, emptied, rebound, freed, made_list, stored_entry}
+use Rattle.nest_tree.specs.Places.{freed_list}
 use Rattle.nest_tree.specs.Elements.{int, element, elements, where_true, guarded}
-use Rattle.nest_tree.specs.Statements.{Given, Caller, elements_back, with_held_elements, whole_back, in_a_row, result_back, all_back, applied, each_turn, loops, looped, behind, rounds, only_next, calmly, ends, put_if, piece_acts, given_all, call_acts, test_acts, kept_truth, take_acts, truth, acts, all_act}
+use Rattle.nest_tree.specs.Statements.{Given, Caller, elements_back, with_held_elements, whole_back, in_a_row, result_back}
+use Rattle.nest_tree.specs.Statements.{all_back, applied, each_turn, loops, looped, behind, rounds, only_next, calmly, ends, put_if}
+use Rattle.nest_tree.specs.Statements.{piece_acts, given_all, call_acts, test_acts, kept_truth, take_acts, truth, acts, all_act}
 use Rattle.nest_tree.specs.Frames.{Spot, ScalarAt, ListAt, ArrayAt, Is, InTree, InTrees, InGuard, InPassed, InStatement, InAll}
 
 -- a memory that was reached by changes of allowed spots alone

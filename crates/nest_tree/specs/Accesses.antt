@@ -5,7 +5,8 @@ use Rattle.nest_tree.specs.declared.access.Along.TheVariants as along
 use Rattle.nest_tree.specs.declared.access.Amount.TheVariants as amounts
 use Rattle.nest_tree.specs.declared.access.Name.TheVariants as name
 use Rattle.nest_tree.specs.declared.access.Dimension.{Dimension}
-use Rattle.nest_tree.specs.Plain.{Tree, Read, Cell, Entry, Unary, Binary, Exactly, Wrapped, Each, Trim, Len, Applied, Trees, no_tree, tree, Guard, Piece, Store, Statements, no_statement, statement}
+use Rattle.nest_tree.specs.Plain.{Tree, Read, Cell, Entry, Unary, Binary, Exactly, Wrapped, Each, Trim, Len, Applied, Trees}
+use Rattle.nest_tree.specs.Plain.{no_tree, tree, Guard, Piece, Store, Statements, no_statement, statement}
 
 -- ---- element trees
 

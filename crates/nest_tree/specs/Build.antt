@@ -21,7 +21,8 @@ use Rattle.nest_tree.specs.declared.tree.Blank.{Blank}
 use Rattle.nest_tree.specs.declared.unit.Declared.{Declared}
 use Rattle.nest_tree.specs.declared.unit.Role.{Role}
 use Rattle.nest_tree.specs.declared.unit.Sort.{Sort}
-use Rattle.nest_tree.specs.Plain.{Tree, Literal, Read, Frame, Statement, Store, Make, Nest, Put, Statements, no_statement, statement, Procedure, NestUnit}
+use Rattle.nest_tree.specs.Plain.{Tree, Literal, Read, Frame, Statement, Store, Make, Nest, Put, Statements, no_statement}
+use Rattle.nest_tree.specs.Plain.{statement, Procedure, NestUnit}
 use Rattle.nest_tree.specs.Run.{End, Comes, Strayed, nest_run, entries}
 
 -- ---- values and accesses

@@ -8,8 +8,10 @@ use Rattle.nest_tree.specs.declared.statement.Made.TheVariants as made
 use Rattle.nest_tree.specs.declared.tree.Blank.TheVariants as blank
 use Rattle.nest_tree.specs.declared.unit.Role.TheVariants as role
 use Rattle.nest_tree.specs.declared.unit.Sort.TheVariants as sort
-use Rattle.nest_tree.specs.Plain.{Read, Turn, Binary, Wrapped, Applied, no_tree, tree, Value, Whole, ResultIn, Statement, Grow, Rebound, Free, Call, Put, Write, Return, Stop, NestUnit}
-use Rattle.nest_tree.specs.Build.{num, int, amount, from, access, row, piece, nest, shown, span, make, integers, procedure, unit_of, ended, going, strayed, Gives}
+use Rattle.nest_tree.specs.Plain.{Read, Turn, Binary, Wrapped, Applied, no_tree, tree, Value, Whole, ResultIn, Statement, Grow}
+use Rattle.nest_tree.specs.Plain.{Rebound, Free, Call, Put, Write, Return, Stop, NestUnit}
+use Rattle.nest_tree.specs.Build.{num, int, amount, from, access, row, piece, nest, shown, span, make, integers, procedure, unit_of}
+use Rattle.nest_tree.specs.Build.{ended, going, strayed, Gives}
 
 abbrev a : Access
 a = access (name.Own 0) (from 1 1 ∷ [])

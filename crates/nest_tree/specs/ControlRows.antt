@@ -10,8 +10,10 @@ use Rattle.nest_tree.specs.declared.tree.Blank.TheVariants as blank
 use Rattle.nest_tree.specs.declared.tree.Exact.TheVariants as exact
 use Rattle.nest_tree.specs.declared.unit.Role.TheVariants as role
 use Rattle.nest_tree.specs.declared.unit.Sort.TheVariants as sort
-use Rattle.nest_tree.specs.Plain.{Literal, Number, Fixed, Read, Turn, Binary, Exactly, Wrapped, Statement, Set, If, While, Put, Write, Take, Skip, Exit, Cycle, no_statement, NestUnit}
-use Rattle.nest_tree.specs.Build.{num, int, from, access, row, all_of, piece, nest, span, make, integers, procedure, unit_of, ended, faulted, going, Gives}
+use Rattle.nest_tree.specs.Plain.{Literal, Number, Fixed, Read, Turn, Binary, Exactly, Wrapped, Statement, Set, If, While, Put}
+use Rattle.nest_tree.specs.Plain.{Write, Take, Skip, Exit, Cycle, no_statement, NestUnit}
+use Rattle.nest_tree.specs.Build.{num, int, from, access, row, all_of, piece, nest, span, make, integers, procedure, unit_of, ended}
+use Rattle.nest_tree.specs.Build.{faulted, going, Gives}
 
 abbrev a : Access
 a = access (name.Own 0) (from 1 1 ∷ [])

@@ -1,6 +1,7 @@
 -- Element trees: one value in a turn of the nest around, evaluated from left to right. They are defined over any state that has
 -- cells, so that a law may leave the rest of the state out.
-use Rattle.std.specs.Prelude.{ℕ, ℤ, pos, neg_ℤ, ◌-◌, ◌^◌, ◌+ℤ◌, ◌-ℤ◌, ◌*ℤ◌, int_div, int_le, int_lt, Bool, true, false, ◌&&◌, if◌then◌else◌, Option, Some, None, is_some, List, [], ◌∷◌, slice_get, slice_index_or}
+use Rattle.std.specs.Prelude.{ℕ, ℤ, pos, neg_ℤ, ◌-◌, ◌^◌, ◌+ℤ◌, ◌-ℤ◌, ◌*ℤ◌, int_div, int_le, int_lt, Bool, true, false, ◌&&◌}
+use Rattle.std.specs.Prelude.{if◌then◌else◌, Option, Some, None, is_some, List, [], ◌∷◌, slice_get, slice_index_or}
 use Rattle.std.specs.Int.{int_min, int_max}
 use Rattle.std.specs.Ordering.{int_eq}
 use Rattle.a95_base.specs.declared.scalar.Scalar.{Scalar}
@@ -16,7 +17,8 @@ use Rattle.nest_tree.specs.declared.tree.Exact.{Exact}
 use Rattle.nest_tree.specs.declared.tree.Exact.TheVariants as exact
 use Rattle.nest_tree.specs.declared.tree.Question.{Question}
 use Rattle.nest_tree.specs.declared.tree.Question.TheVariants as question
-use Rattle.nest_tree.specs.Plain.{Tree, Literal, Number, Constant, Fixed, Read, Cell, Entry, Turn, Place, Asked, Unary, Binary, Exactly, Wrapped, Each, Trim, Len, Applied, Trees, no_tree, tree, Guard}
+use Rattle.nest_tree.specs.Plain.{Tree, Literal, Number, Constant, Fixed, Read, Cell, Entry, Turn, Place, Asked, Unary, Binary}
+use Rattle.nest_tree.specs.Plain.{Exactly, Wrapped, Each, Trim, Len, Applied, Trees, no_tree, tree, Guard}
 use Rattle.nest_tree.specs.State.{Cells, StepOn, on, found, given, sees, block_in}
 use Rattle.nest_tree.specs.Places.{at_turn, Aim, aimed, looked, cell_of, list_entry}
 

@@ -3,7 +3,11 @@ use Rattle.std.specs.Prelude.{◌≡◌, ℕ, Bool, true, false, Option, Some, N
 use Rattle.a95_base.specs.declared.scalar.Scalar.{Scalar}
 use Rattle.nest_tree.specs.declared.access.Name.{Name}
 use Rattle.nest_tree.specs.declared.access.Name.TheVariants as name
-use Rattle.nest_tree.specs.Plain.{Tree, Literal, Number, Constant, Fixed, Read, Cell, Entry, Turn, Place, Asked, Unary, Binary, Exactly, Wrapped, Each, Trim, Len, Applied, Trees, no_tree, tree, Guard, Passed, Value, Whole, ResultIn, Statement, Set, Test, Store, StoreCell, Make, Grow, Rebound, Free, MakeList, StoreEntry, FreeList, Nest, If, While, Call, Put, Write, Take, Skip, Exit, Cycle, Return, Stop, Statements, no_statement, statement, NestUnit}
+use Rattle.nest_tree.specs.Plain.{Tree, Literal, Number, Constant, Fixed, Read, Cell, Entry, Turn, Place, Asked, Unary, Binary}
+use Rattle.nest_tree.specs.Plain.{Exactly, Wrapped, Each, Trim, Len, Applied, Trees, no_tree, tree, Guard, Passed, Value, Whole}
+use Rattle.nest_tree.specs.Plain.{ResultIn, Statement, Set, Test, Store, StoreCell, Make, Grow, Rebound, Free, MakeList, StoreEntry}
+use Rattle.nest_tree.specs.Plain.{FreeList, Nest, If, While, Call, Put, Write, Take, Skip, Exit, Cycle, Return, Stop, Statements}
+use Rattle.nest_tree.specs.Plain.{no_statement, statement, NestUnit}
 use Rattle.nest_tree.specs.State.{Memory, memory_of, NestState, block_in}
 use Rattle.nest_tree.specs.Statements.{Given, Caller, all_act}
 use Rattle.nest_tree.specs.Run.{called}

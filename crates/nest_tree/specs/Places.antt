@@ -1,10 +1,13 @@
 -- Which element an access names in a turn of the nest around: each subscript comes of the turn, and has to lie within its bounds.
-use Rattle.std.specs.Prelude.{ℕ, ℤ, pos, negsuc, ◌+◌, ◌*◌, ◌-◌, ◌+ℤ◌, ◌-ℤ◌, ◌*ℤ◌, int_le, unsigned_abs, Bool, true, false, ◌&&◌, nat_le, nat_eq, if◌then◌else◌, Option, Some, None, List, [], ◌∷◌, ◌++◌, map, length, replicate, slice_get, slice_index_or, slice_set}
+use Rattle.std.specs.Prelude.{ℕ, ℤ, pos, negsuc, ◌+◌, ◌*◌, ◌-◌, ◌+ℤ◌, ◌-ℤ◌, ◌*ℤ◌, int_le, unsigned_abs, Bool, true, false, ◌&&◌}
+use Rattle.std.specs.Prelude.{nat_le, nat_eq, if◌then◌else◌, Option, Some, None, List, [], ◌∷◌, ◌++◌, map, length, replicate}
+use Rattle.std.specs.Prelude.{slice_get, slice_index_or, slice_set}
 use Rattle.a95_base.specs.Limits.{most_elements, longest_text}
 use Rattle.a95_base.specs.declared.scalar.Scalar.{Scalar}
 use Rattle.a95_base.specs.declared.scalar.Scalar.TheVariants as scalar
 use Rattle.array_meaning.specs.Values.{integer_of, length_of, size_of}
-use Rattle.array_meaning.specs.State.{Dimension as Bounds, dimension, extent_of, extents_of, counted_from_one, Array, Variable, Substring, bytes_of, changed}
+use Rattle.array_meaning.specs.State.{Dimension as Bounds, dimension, extent_of, extents_of, counted_from_one, Array, Variable}
+use Rattle.array_meaning.specs.State.{Substring, bytes_of, changed}
 use Rattle.array_meaning.specs.Sections.{is_part, part_bytes}
 use Rattle.nest_tree.specs.declared.access.Access.{Access}
 use Rattle.nest_tree.specs.declared.access.Along.{Along}

@@ -1,6 +1,7 @@
 -- Calls, and the run of a unit on an input within a number of turns, with the count of its entries: of the bodies of loops that
 -- were entered, of the calls, and of the last tests of loops that ask a condition.
-use Rattle.std.specs.Prelude.{◌≡◌, ℕ, zero, suc, pos, Bool, true, false, ◌&&◌, nat_eq, if◌then◌else◌, Option, Some, None, List, [], ◌∷◌, map, filter, length, slice_get, slice_index_or, Result, Ok, Err}
+use Rattle.std.specs.Prelude.{◌≡◌, ℕ, zero, suc, pos, Bool, true, false, ◌&&◌, nat_eq, if◌then◌else◌, Option, Some, None, List, []}
+use Rattle.std.specs.Prelude.{◌∷◌, map, filter, length, slice_get, slice_index_or, Result, Ok, Err}
 use Rattle.std.specs.List.{list_all}
 use Rattle.a95_base.specs.declared.fault.FaultKind.TheVariants as fault
 use Rattle.a95_base.specs.declared.scalar.Scalar.{Scalar}

@@ -1,7 +1,10 @@
 -- The units that LoopC can be emitted from. What the text alone tells is asked of it: the sort of each value, that numbers are
 -- those of something, what may be stored into, what a call passes, that no loop is left which isn't there. All else is that no run
--- of the unit strays: that no place is outside its array, that nothing is read which isn't held, that sizes are within their limits.
-use Rattle.std.specs.Prelude.{◌≡◌, ℕ, suc, ℤ, pos, neg_ℤ, ◌+◌, ◌*◌, ◌^◌, ◌≤◌, max, int_le, int_lt, nat_eq, nat_le, nat_lt, Bool, true, false, not, ◌&&◌, ◌||◌, if◌then◌else◌, Option, Some, None, is_some, List, [], ◌∷◌, length, slice_get}
+-- of the unit strays: that no place is outside its array, that nothing is read which isn't held, that sizes are within their
+-- limits.
+use Rattle.std.specs.Prelude.{◌≡◌, ℕ, suc, ℤ, pos, neg_ℤ, ◌+◌, ◌*◌, ◌^◌, ◌≤◌, max, int_le, int_lt, nat_eq, nat_le, nat_lt, Bool}
+use Rattle.std.specs.Prelude.{true, false, not, ◌&&◌, ◌||◌, if◌then◌else◌, Option, Some, None, is_some, List, [], ◌∷◌, length}
+use Rattle.std.specs.Prelude.{slice_get}
 use Rattle.std.specs.List.{list_all}
 use Rattle.a95_base.specs.declared.scalar.Scalar.{Scalar}
 use Rattle.a95_base.specs.declared.scalar.Scalar.TheVariants as scalar
@@ -40,7 +43,11 @@ use Rattle.nest_tree.specs.declared.unit.Role.{Role}
 use Rattle.nest_tree.specs.declared.unit.Role.TheVariants as role
 use Rattle.nest_tree.specs.declared.unit.Sort.{Sort}
 use Rattle.nest_tree.specs.declared.unit.Sort.TheVariants as sort
-use Rattle.nest_tree.specs.Plain.{Tree, Literal, Number, Constant, Fixed, Read, Cell, Entry, Turn, Place, Asked, Unary, Binary, Exactly, Wrapped, Each, Trim, Len, Applied, Trees, no_tree, tree, Guard, Frame, Passed, Value, Whole, ResultIn, Statement, Set, Test, Store, StoreCell, Make, Grow, Rebound, Free, MakeList, StoreEntry, FreeList, Nest, If, While, Call, Put, Write, Take, Skip, Exit, Cycle, Return, Stop, Statements, no_statement, statement, Procedure, NestUnit}
+use Rattle.nest_tree.specs.Plain.{Tree, Literal, Number, Constant, Fixed, Read, Cell, Entry, Turn, Place, Asked, Unary, Binary}
+use Rattle.nest_tree.specs.Plain.{Exactly, Wrapped, Each, Trim, Len, Applied, Trees, no_tree, tree, Guard, Frame, Passed, Value}
+use Rattle.nest_tree.specs.Plain.{Whole, ResultIn, Statement, Set, Test, Store, StoreCell, Make, Grow, Rebound, Free, MakeList}
+use Rattle.nest_tree.specs.Plain.{StoreEntry, FreeList, Nest, If, While, Call, Put, Write, Take, Skip, Exit, Cycle, Return, Stop}
+use Rattle.nest_tree.specs.Plain.{Statements, no_statement, statement, Procedure, NestUnit}
 use Rattle.nest_tree.specs.Elements.{least_exact}
 use Rattle.nest_tree.specs.Run.{Strayed, nest_run}
 

@@ -1,6 +1,7 @@
 -- The state of a running nest unit, and the steps that everything is made of. The state of the source is one field; beside it
 -- stand what the lowering holds for the procedure that runs, the record that is being made, and the count of entries.
-use Rattle.std.specs.Prelude.{ℕ, suc, ℤ, Bool, true, false, nat_eq, if◌then◌else◌, Option, Some, None, List, [], ◌∷◌, ◌++◌, slice_index_or, slice_set, Result, Ok, Err}
+use Rattle.std.specs.Prelude.{ℕ, suc, ℤ, Bool, true, false, nat_eq, if◌then◌else◌, Option, Some, None, List, [], ◌∷◌, ◌++◌}
+use Rattle.std.specs.Prelude.{slice_index_or, slice_set, Result, Ok, Err}
 use Rattle.a95_base.specs.declared.fault.FaultKind.{FaultKind}
 use Rattle.a95_base.specs.declared.scalar.Scalar.{Scalar}
 use Rattle.a95_base.specs.Steps.{Ran}

@@ -1,6 +1,7 @@
 -- What statements do. A nest runs its body at each place of its frame, in its order; inside of a body a statement knows the turn
 -- of the innermost nest alone.
-use Rattle.std.specs.Prelude.{ℕ, zero, suc, pos, ◌-◌, Bool, nat_eq, if◌then◌else◌, Option, Some, None, List, [], ◌∷◌, ◌++◌, map, length, slice_index, slice_set}
+use Rattle.std.specs.Prelude.{ℕ, zero, suc, pos, ◌-◌, Bool, nat_eq, if◌then◌else◌, Option, Some, None, List, [], ◌∷◌, ◌++◌, map}
+use Rattle.std.specs.Prelude.{length, slice_index, slice_set}
 use Rattle.a95_base.specs.declared.fault.FaultKind.{FaultKind}
 use Rattle.a95_base.specs.declared.scalar.Scalar.{Scalar}
 use Rattle.a95_base.specs.Steps.{pure, stop, ◌>>=◌, ◌>>◌}
@@ -14,9 +15,13 @@ use Rattle.array_meaning.specs.Control.{Flow, Next, Exits, Cycles, Returns}
 use Rattle.nest_tree.specs.declared.access.Access.{Access}
 use Rattle.nest_tree.specs.declared.access.Name.{Name}
 use Rattle.nest_tree.specs.declared.access.Name.TheVariants as name
-use Rattle.nest_tree.specs.Plain.{Tree, Piece, Passed, Value, Whole, ResultIn, Statement, Set, Test, Store, StoreCell, Make, Grow, Rebound, Free, MakeList, StoreEntry, FreeList, Nest, If, While, Call, Put, Write, Take, Skip, Exit, Cycle, Return, Stop, Statements, no_statement, statement}
-use Rattle.nest_tree.specs.State.{cells_of, Memory, NestState, By, Stray, Step, on, pick, reads, changes, within, enter, turns_left, joins, writes, block_in, with_block, with_kept}
-use Rattle.nest_tree.specs.Places.{amount, natural, blank_for, is_aimed, stored_at, stored_cell, cell_of, with_elements, made_block, grown, rebound, emptied, freed, made_list, stored_entry, freed_list}
+use Rattle.nest_tree.specs.Plain.{Tree, Piece, Passed, Value, Whole, ResultIn, Statement, Set, Test, Store, StoreCell, Make, Grow}
+use Rattle.nest_tree.specs.Plain.{Rebound, Free, MakeList, StoreEntry, FreeList, Nest, If, While, Call, Put, Write, Take, Skip}
+use Rattle.nest_tree.specs.Plain.{Exit, Cycle, Return, Stop, Statements, no_statement, statement}
+use Rattle.nest_tree.specs.State.{cells_of, Memory, NestState, By, Stray, Step, on, pick, reads, changes, within, enter, turns_left}
+use Rattle.nest_tree.specs.State.{joins, writes, block_in, with_block, with_kept}
+use Rattle.nest_tree.specs.Places.{amount, natural, blank_for, is_aimed, stored_at, stored_cell, cell_of, with_elements, made_block}
+use Rattle.nest_tree.specs.Places.{grown, rebound, emptied, freed, made_list, stored_entry, freed_list}
 use Rattle.nest_tree.specs.Elements.{int, Application, element, guarded}
 
 -- ---- calls, as far as a statement knows them

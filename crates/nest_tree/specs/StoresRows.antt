@@ -12,8 +12,10 @@ use Rattle.nest_tree.specs.declared.tree.Exact.TheVariants as exact
 use Rattle.nest_tree.specs.declared.tree.Question.TheVariants as question
 use Rattle.nest_tree.specs.declared.unit.Role.TheVariants as role
 use Rattle.nest_tree.specs.declared.unit.Sort.TheVariants as sort
-use Rattle.nest_tree.specs.Plain.{Literal, Number, Read, Cell, Turn, Place, Asked, Binary, Exactly, Wrapped, Statement, Set, Test, Store, StoreCell, Grow, Rebound, Free, MakeList, StoreEntry, Put, Write, NestUnit}
-use Rattle.nest_tree.specs.Build.{num, int, amount, from, access, row, backwards, piece, piece_where, nest, shown, span, make, integers, text_of_length, procedure, unit_of, ended, faulted, strayed, Gives}
+use Rattle.nest_tree.specs.Plain.{Literal, Number, Read, Cell, Turn, Place, Asked, Binary, Exactly, Wrapped, Statement, Set, Test}
+use Rattle.nest_tree.specs.Plain.{Store, StoreCell, Grow, Rebound, Free, MakeList, StoreEntry, Put, Write, NestUnit}
+use Rattle.nest_tree.specs.Build.{num, int, amount, from, access, row, backwards, piece, piece_where, nest, shown, span, make}
+use Rattle.nest_tree.specs.Build.{integers, text_of_length, procedure, unit_of, ended, faulted, strayed, Gives}
 
 abbrev a : Access
 a = access (name.Own 0) (from 1 1 ∷ [])

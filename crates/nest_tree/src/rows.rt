@@ -1,10 +1,16 @@
 //! Small units, each with what it comes to on its input within its turns, and how many entries it counts. The units stand in
 //! `specs/StoresRows.antt`, `ControlRows.antt` and `CallsRows.antt`.
 
-ghost use Rattle.nest_tree.specs.StoresRows.{WholeRow, ShiftedBackwards, ShiftedForwards, ShiftedThroughATemporary, TwoPiecesOfOneNest, OutsideItsArray, NothingWhereFalse, FaultAtItsLine, NoElementsNoEntries, ColumnsFromTheLast, SubscriptsFromAList, FreedIsNotRead, GrownAndGivenAShape, TextsPaddedAndKept, ExactBeyond64Bits};
-ghost use Rattle.nest_tree.specs.ControlRows.{StepsOfFour, TurnsRunOut, OuterLoopLeft, OuterTurnEnded, Branches, TwoIntegersRead, InputAtItsEnd, InputWithoutInteger, RecordDroppedByAFault};
-ghost use Rattle.nest_tree.specs.FitsRows.{ElementalReferenceFits, NoLoopLeft, PassedTwice, StepsOfFourFit, ValueStored, WholeRowFits, WrongSort};
-ghost use Rattle.nest_tree.specs.CallsRows.{ModifiedInPlace, CallWithoutATurn, ElementalReference, ElementalReferenceWaits, ResultOfAnArray, StopInAProcedure, NoSuchProcedure, DummyWithoutActual};
+ghost use Rattle.nest_tree.specs.StoresRows.{WholeRow, ShiftedBackwards, ShiftedForwards, ShiftedThroughATemporary};
+ghost use Rattle.nest_tree.specs.StoresRows.{TwoPiecesOfOneNest, OutsideItsArray, NothingWhereFalse, FaultAtItsLine};
+ghost use Rattle.nest_tree.specs.StoresRows.{NoElementsNoEntries, ColumnsFromTheLast, SubscriptsFromAList, FreedIsNotRead};
+ghost use Rattle.nest_tree.specs.StoresRows.{GrownAndGivenAShape, TextsPaddedAndKept, ExactBeyond64Bits};
+ghost use Rattle.nest_tree.specs.ControlRows.{StepsOfFour, TurnsRunOut, OuterLoopLeft, OuterTurnEnded, Branches, TwoIntegersRead};
+ghost use Rattle.nest_tree.specs.ControlRows.{InputAtItsEnd, InputWithoutInteger, RecordDroppedByAFault};
+ghost use Rattle.nest_tree.specs.FitsRows.{ElementalReferenceFits, NoLoopLeft, PassedTwice, StepsOfFourFit, ValueStored};
+ghost use Rattle.nest_tree.specs.FitsRows.{WholeRowFits, WrongSort};
+ghost use Rattle.nest_tree.specs.CallsRows.{ModifiedInPlace, CallWithoutATurn, ElementalReference, ElementalReferenceWaits};
+ghost use Rattle.nest_tree.specs.CallsRows.{ResultOfAnArray, StopInAProcedure, NoSuchProcedure, DummyWithoutActual};
 
 /// Stores, places, masks and blocks.
 #[tactic(auto, using(crate::proofs::StoresRows::whole_row_row, crate::proofs::StoresRows::shifted_backwards_row, crate::proofs::StoresRows::shifted_forwards_row, crate::proofs::StoresRows::shifted_through_a_temporary_row, crate::proofs::StoresRows::two_pieces_of_one_nest_row, crate::proofs::StoresRows::outside_its_array_row, crate::proofs::StoresRows::nothing_where_false_row, crate::proofs::StoresRows::fault_at_its_line_row, crate::proofs::StoresRows::no_elements_no_entries_row, crate::proofs::StoresRows::columns_from_the_last_row, crate::proofs::StoresRows::subscripts_from_a_list_row, crate::proofs::StoresRows::freed_is_not_read_row, crate::proofs::StoresRows::grown_and_given_a_shape_row, crate::proofs::StoresRows::texts_padded_and_kept_row, crate::proofs::StoresRows::exact_beyond_64_bits_row))]

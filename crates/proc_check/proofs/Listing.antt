@@ -1,5 +1,6 @@
 -- The list of a unit's breaks has all that it breaks, and nothing else.
-use Rattle.std.proofs.Common.{ℕ, Bool, true, false, ◌&&◌, List, [], ◌∷◌, ◌++◌, refl, sym, subst, inl, inr, ◌≡◌, Option, Some, None, flat_map}
+use Rattle.std.proofs.Common.{ℕ, Bool, true, false, ◌&&◌, List, [], ◌∷◌, ◌++◌, refl, sym, subst, inl, inr, ◌≡◌, Option, Some, None}
+use Rattle.std.proofs.Common.{flat_map}
 use Rattle.a95_base.specs.declared.breaks.Break.{Break}
 use Rattle.a95_base.specs.Breaks.{broken_at, first_of}
 use Rattle.a95_base.specs.Lists.{Member}
@@ -10,8 +11,16 @@ use Rattle.f95_unit.specs.Plain.{Entity, Program}
 use Rattle.proc_check.specs.declared.caller.Caller.{Caller}
 use Rattle.proc_check.specs.Interfaces.{is_pure}
 use Rattle.proc_check.specs.References.{Reference, References, Act, Transfers}
-use Rattle.proc_check.specs.Rules.{is_mismatch, has_wrong_out, is_impure_function, changes_dummy, is_impure_call, is_recursive_elemental, is_array, has_array_dummy, has_array_actual, is_unmarked_recursion, has_other_length, result_of, Home, homes, caller_in, acts, callee, Breaks, has_wrong_arguments, changes_no_variable, function_is_not_pure, function_changes_dummy, transfers_in_pure, references_impure, elemental_is_recursive, elemental_has_array_dummy, elemental_has_array_result, elemental_takes_array, references_itself, has_other_lengths}
-use Rattle.proc_check.specs.Listed.{broken_if, argument_breaks, out_breaks, purity_breaks, actual_breaks, recursion_breaks, length_breaks, breaks_from_42, breaks_from_43, breaks_from_44, breaks_from_45, reference_breaks, act_breaks, heading_breaks, entity_breaks, declaration_breaks, array_breaks, result_breaks, statement_breaks, breaks_behind_declarations, breaks_behind_heading, home_breaks, breaks_of}
+use Rattle.proc_check.specs.Rules.{is_mismatch, has_wrong_out, is_impure_function, changes_dummy, is_impure_call}
+use Rattle.proc_check.specs.Rules.{is_recursive_elemental, is_array, has_array_dummy, has_array_actual, is_unmarked_recursion}
+use Rattle.proc_check.specs.Rules.{has_other_length, result_of, Home, homes, caller_in, acts, callee, Breaks, has_wrong_arguments}
+use Rattle.proc_check.specs.Rules.{changes_no_variable, function_is_not_pure, function_changes_dummy, transfers_in_pure}
+use Rattle.proc_check.specs.Rules.{references_impure, elemental_is_recursive, elemental_has_array_dummy, elemental_has_array_result}
+use Rattle.proc_check.specs.Rules.{elemental_takes_array, references_itself, has_other_lengths}
+use Rattle.proc_check.specs.Listed.{broken_if, argument_breaks, out_breaks, purity_breaks, actual_breaks, recursion_breaks}
+use Rattle.proc_check.specs.Listed.{length_breaks, breaks_from_42, breaks_from_43, breaks_from_44, breaks_from_45, reference_breaks}
+use Rattle.proc_check.specs.Listed.{act_breaks, heading_breaks, entity_breaks, declaration_breaks, array_breaks, result_breaks}
+use Rattle.proc_check.specs.Listed.{statement_breaks, breaks_behind_declarations, breaks_behind_heading, home_breaks, breaks_of}
 use Rattle.proc_check.specs.Laws.{ListedAreBroken, FirstIsLeast, NoneIsUnbroken}
 
 -- ---- members of lists that are joined

@@ -1,5 +1,6 @@
 -- What a reference sees of a procedure: whether it is a function, its prefixes, and its dummies in their places.
-use Rattle.std.specs.Prelude.{ℕ, ◌+◌, if◌then◌else◌, Bool, true, false, ◌||◌, Option, Some, None, is_some, List, [], ◌∷◌, map, length, replicate, slice_set}
+use Rattle.std.specs.Prelude.{ℕ, ◌+◌, if◌then◌else◌, Bool, true, false, ◌||◌, Option, Some, None, is_some, List, [], ◌∷◌, map}
+use Rattle.std.specs.Prelude.{length, replicate, slice_set}
 use Rattle.a95_base.specs.declared.scalar.Kind.{Kind}
 use Rattle.a95_base.specs.declared.scalar.Kind.TheVariants as kind
 use Rattle.f95_unit.specs.declared.unit.DeclaredType.{DeclaredType}

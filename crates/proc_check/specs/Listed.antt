@@ -8,7 +8,9 @@ use Rattle.a95_base.specs.Rules.{wrong_arguments, wrong_out_argument, not_pure, 
 use Rattle.f95_unit.specs.Plain.{Entity, Procedure, Program}
 use Rattle.proc_check.specs.declared.caller.Caller.{Caller}
 use Rattle.proc_check.specs.References.{Reference, References, Act, Transfers}
-use Rattle.proc_check.specs.Rules.{is_mismatch, has_wrong_out, is_impure_function, changes_dummy, is_impure_call, is_recursive_elemental, is_array, has_array_dummy, has_array_actual, is_unmarked_recursion, has_other_length, result_of, Home, homes, caller_in, acts, callee}
+use Rattle.proc_check.specs.Rules.{is_mismatch, has_wrong_out, is_impure_function, changes_dummy, is_impure_call}
+use Rattle.proc_check.specs.Rules.{is_recursive_elemental, is_array, has_array_dummy, has_array_actual, is_unmarked_recursion}
+use Rattle.proc_check.specs.Rules.{has_other_length, result_of, Home, homes, caller_in, acts, callee}
 
 -- where a test holds, the rule is broken on the line
 abbrev pub broken_if : Bool → ℕ → ℕ → List Break

@@ -1,8 +1,13 @@
 -- The parts of a typed unit that `f95_unit` doesn't show by themselves, as plain data, and lists of them as slices hold them.
 use Rattle.std.specs.Prelude.{List, map}
 use Rattle.f95_unit.specs.Plain as plain
-use Rattle.f95_unit.specs.View.{AddItem, AddSubscript, AddArgument, AddMasked, AddOther, AddBranch, AddCase, joined_items, joined_subscripts, joined_arguments, joined_masked, joined_others, joined_branches, joined_cases, joined_stmts, access_at, bound_at, item_at, node_at, part_at, subject_at, subscript_at, argument_at, call_at, designator_at, expr_at, masked_at, elsewhere_at, where_at, stmt_at, branch_at, case_at, stmt_of}
-use Rattle.f95_unit.specs.declared.expr.Access.TheFolds.{fold-Access, fold-Item, fold-Node, fold-Part, fold-Subject, fold-Subscript, fold-Argument}
+use Rattle.f95_unit.specs.View.{AddItem, AddSubscript, AddArgument, AddMasked, AddOther, AddBranch, AddCase, joined_items}
+use Rattle.f95_unit.specs.View.{joined_subscripts, joined_arguments, joined_masked, joined_others, joined_branches, joined_cases}
+use Rattle.f95_unit.specs.View.{joined_stmts, access_at, bound_at, item_at, node_at, part_at, subject_at, subscript_at, argument_at}
+use Rattle.f95_unit.specs.View.{call_at, designator_at, expr_at, masked_at, elsewhere_at, where_at, stmt_at, branch_at, case_at}
+use Rattle.f95_unit.specs.View.{stmt_of}
+use Rattle.f95_unit.specs.declared.expr.Access.TheFolds.{fold-Access, fold-Item, fold-Node, fold-Part, fold-Subject, fold-Subscript}
+use Rattle.f95_unit.specs.declared.expr.Access.TheFolds.{fold-Argument}
 use Rattle.f95_unit.specs.declared.expr.Access.{Access}
 use Rattle.f95_unit.specs.declared.expr.Item.{Item}
 use Rattle.f95_unit.specs.declared.expr.Node.{Node}
@@ -19,31 +24,38 @@ use Rattle.f95_unit.specs.declared.stmt.Case.{Case}
 use Rattle.f95_unit.specs.declared.stmt.Stmt.TheFolds.{fold-Branch, fold-Case}
 
 abbrev pub access_of : Access → plain.Access
-access_of = fold-Access plain.Access plain.Bound AddItem plain.Node plain.Part plain.Subject AddSubscript AddArgument plain.Call plain.Designator plain.Expr
+access_of = fold-Access plain.Access plain.Bound AddItem plain.Node plain.Part plain.Subject AddSubscript AddArgument plain.Call
+    plain.Designator plain.Expr
     access_at bound_at item_at node_at part_at subject_at subscript_at argument_at call_at designator_at expr_at
 
 abbrev pub item_of : Item → AddItem
-item_of = fold-Item plain.Access plain.Bound AddItem plain.Node plain.Part plain.Subject AddSubscript AddArgument plain.Call plain.Designator plain.Expr
+item_of = fold-Item plain.Access plain.Bound AddItem plain.Node plain.Part plain.Subject AddSubscript AddArgument plain.Call
+    plain.Designator plain.Expr
     access_at bound_at item_at node_at part_at subject_at subscript_at argument_at call_at designator_at expr_at
 
 abbrev pub node_of : Node → plain.Node
-node_of = fold-Node plain.Access plain.Bound AddItem plain.Node plain.Part plain.Subject AddSubscript AddArgument plain.Call plain.Designator plain.Expr
+node_of = fold-Node plain.Access plain.Bound AddItem plain.Node plain.Part plain.Subject AddSubscript AddArgument plain.Call
+    plain.Designator plain.Expr
     access_at bound_at item_at node_at part_at subject_at subscript_at argument_at call_at designator_at expr_at
 
 abbrev pub part_of : Part → plain.Part
-part_of = fold-Part plain.Access plain.Bound AddItem plain.Node plain.Part plain.Subject AddSubscript AddArgument plain.Call plain.Designator plain.Expr
+part_of = fold-Part plain.Access plain.Bound AddItem plain.Node plain.Part plain.Subject AddSubscript AddArgument plain.Call
+    plain.Designator plain.Expr
     access_at bound_at item_at node_at part_at subject_at subscript_at argument_at call_at designator_at expr_at
 
 abbrev pub subject_of : Subject → plain.Subject
-subject_of = fold-Subject plain.Access plain.Bound AddItem plain.Node plain.Part plain.Subject AddSubscript AddArgument plain.Call plain.Designator plain.Expr
+subject_of = fold-Subject plain.Access plain.Bound AddItem plain.Node plain.Part plain.Subject AddSubscript AddArgument plain.Call
+    plain.Designator plain.Expr
     access_at bound_at item_at node_at part_at subject_at subscript_at argument_at call_at designator_at expr_at
 
 abbrev pub subscript_of : Subscript → AddSubscript
-subscript_of = fold-Subscript plain.Access plain.Bound AddItem plain.Node plain.Part plain.Subject AddSubscript AddArgument plain.Call plain.Designator plain.Expr
+subscript_of = fold-Subscript plain.Access plain.Bound AddItem plain.Node plain.Part plain.Subject AddSubscript AddArgument
+    plain.Call plain.Designator plain.Expr
     access_at bound_at item_at node_at part_at subject_at subscript_at argument_at call_at designator_at expr_at
 
 abbrev pub argument_of : Argument → AddArgument
-argument_of = fold-Argument plain.Access plain.Bound AddItem plain.Node plain.Part plain.Subject AddSubscript AddArgument plain.Call plain.Designator plain.Expr
+argument_of = fold-Argument plain.Access plain.Bound AddItem plain.Node plain.Part plain.Subject AddSubscript AddArgument plain.Call
+    plain.Designator plain.Expr
     access_at bound_at item_at node_at part_at subject_at subscript_at argument_at call_at designator_at expr_at
 
 abbrev pub items_of : List Item → plain.Items

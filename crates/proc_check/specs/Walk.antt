@@ -5,12 +5,22 @@ use Rattle.std.specs.List.{fold}
 use Rattle.a95_base.specs.declared.breaks.Break.{Break}
 use Rattle.a95_base.specs.Breaks.{broken_at, comes_first}
 use Rattle.a95_base.specs.Rules.{wrong_arguments, wrong_out_argument, not_pure, not_elemental, not_recursive, lengths_differ}
-use Rattle.f95_unit.specs.Plain.{Expr, typed, Node, Literal, Constant, Index, Named, Brackets, Unary, Binary, Constructor, Elementwise, Trim, Asked, Reduced, Rearranged, Called, Designator, at, Access, Whole, Subscripted, Subscripts, no_subscript, subscript, Subscript, One, Vector, SubscriptTriplet, Bound, Absent, Given, Part, AllOf, BytesOf, Items, no_item, value, loop, Arguments, no_argument, argument, Subject, Name, Of, Call, call, Target, Assign, Where, masked, MaskedBody, no_masked, assigning, narrowed, Others, no_other, elsewhere, Triplet, Forall, Span, Allocation, Stmt, Assigns, Masks, ForAll, Calls, Allocate, Deallocate, Print, Read, If, Select, Do, While, Forever, Exit, Cycle, Return, Stop, Stmts, no_stmt, stmt, Branches, no_branch, branch, Cases, no_case, case, Entity, Procedure, Program}
+use Rattle.f95_unit.specs.Plain.{Expr, typed, Node, Literal, Constant, Index, Named, Brackets, Unary, Binary, Constructor}
+use Rattle.f95_unit.specs.Plain.{Elementwise, Trim, Asked, Reduced, Rearranged, Called, Designator, at, Access, Whole, Subscripted}
+use Rattle.f95_unit.specs.Plain.{Subscripts, no_subscript, subscript, Subscript, One, Vector, SubscriptTriplet, Bound, Absent}
+use Rattle.f95_unit.specs.Plain.{Given, Part, AllOf, BytesOf, Items, no_item, value, loop, Arguments, no_argument, argument}
+use Rattle.f95_unit.specs.Plain.{Subject, Name, Of, Call, call, Target, Assign, Where, masked, MaskedBody, no_masked, assigning}
+use Rattle.f95_unit.specs.Plain.{narrowed, Others, no_other, elsewhere, Triplet, Forall, Span, Allocation, Stmt, Assigns, Masks}
+use Rattle.f95_unit.specs.Plain.{ForAll, Calls, Allocate, Deallocate, Print, Read, If, Select, Do, While, Forever, Exit, Cycle}
+use Rattle.f95_unit.specs.Plain.{Return, Stop, Stmts, no_stmt, stmt, Branches, no_branch, branch, Cases, no_case, case, Entity}
+use Rattle.f95_unit.specs.Plain.{Procedure, Program}
 use Rattle.proc_check.specs.declared.interface.Interface.{Interface}
 use Rattle.proc_check.specs.declared.caller.Caller.{Caller}
 use Rattle.proc_check.specs.Interfaces.{interfaces_of}
 use Rattle.proc_check.specs.References.{Reference, References, Act, Transfers, reference}
-use Rattle.proc_check.specs.Rules.{is_mismatch, has_wrong_out, is_impure_function, changes_dummy, is_impure_call, is_recursive_elemental, is_array, has_array_dummy, has_array_actual, is_itself, is_unmarked_recursion, has_other_length, result_of, Home, homes, caller_of, callee}
+use Rattle.proc_check.specs.Rules.{is_mismatch, has_wrong_out, is_impure_function, changes_dummy, is_impure_call}
+use Rattle.proc_check.specs.Rules.{is_recursive_elemental, is_array, has_array_dummy, has_array_actual, is_itself}
+use Rattle.proc_check.specs.Rules.{is_unmarked_recursion, has_other_length, result_of, Home, homes, caller_of, callee}
 
 -- ---- the first break so far
 

@@ -3,9 +3,12 @@
 use Rattle.std.specs.Prelude.{◌≡◌, [], ◌∷◌}
 use Rattle.a95_base.specs.Breaks.{broken_at}
 use Rattle.f95_unit.specs.declared.unit.Intent.TheVariants as intent
-use Rattle.f95_unit.specs.Plain.{typed, Named, at, Whole, Subscripted, no_subscript, subscript, Vector, SubscriptTriplet, One, Absent, AllOf, BytesOf, Given, Brackets, Trim, no_argument, argument, call, Calls, Do, Program}
+use Rattle.f95_unit.specs.Plain.{typed, Named, at, Whole, Subscripted, no_subscript, subscript, Vector, SubscriptTriplet, One}
+use Rattle.f95_unit.specs.Plain.{Absent, AllOf, BytesOf, Given, Brackets, Trim, no_argument, argument, call, Calls, Do, Program}
 use Rattle.proc_check.specs.Listed.{breaks_of}
-use Rattle.proc_check_rows.specs.Build.{ints, texts, some_text, number, truth, variable, function_call, actuals, stmts, calls, sets, integer, character, character_star, own, dummy, no_prefix, with_pure, with_elemental, subroutine, function, program}
+use Rattle.proc_check_rows.specs.Build.{ints, texts, some_text, number, truth, variable, function_call, actuals, stmts, calls, sets}
+use Rattle.proc_check_rows.specs.Build.{integer, character, character_star, own, dummy, no_prefix, with_pure, with_elemental}
+use Rattle.proc_check_rows.specs.Build.{subroutine, function, program}
 
 -- 1 program p
 -- 2 integer :: a

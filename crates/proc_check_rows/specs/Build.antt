@@ -8,7 +8,9 @@ use Rattle.f95_unit.specs.declared.unit.DeclaredType.TheVariants as of_type
 use Rattle.f95_unit.specs.declared.unit.Length.TheVariants as long
 use Rattle.f95_unit.specs.declared.unit.Role.TheVariants as role
 use Rattle.f95_unit.specs.declared.unit.Intent.{Intent}
-use Rattle.f95_unit.specs.Plain.{Expr, typed, Literal, Named, Called, at, Whole, AllOf, Absent, Bounds, Scalars, Explicit, Arguments, no_argument, argument, Stmt, Stmts, no_stmt, stmt, call, Calls, Assigns, Entity, Procedure, Program}
+use Rattle.f95_unit.specs.Plain.{Expr, typed, Literal, Named, Called, at, Whole, AllOf, Absent, Bounds, Scalars, Explicit}
+use Rattle.f95_unit.specs.Plain.{Arguments, no_argument, argument, Stmt, Stmts, no_stmt, stmt, call, Calls, Assigns, Entity}
+use Rattle.f95_unit.specs.Plain.{Procedure, Program}
 
 -- ---- facts and expressions
 
@@ -120,4 +122,5 @@ abbrev pub function : Prefixes → ℕ → List Entity → ℕ → List Stmt →
 function ps line entities result body = procedure ps line entities (Some result) body
 
 abbrev pub program : List Entity → List Stmt → List Procedure → Program
-program entities body procedures = record { constants = []; main = procedure no_prefix 1 entities None body; procedures = procedures }
+program entities body procedures =
+    record { constants = []; main = procedure no_prefix 1 entities None body; procedures = procedures }

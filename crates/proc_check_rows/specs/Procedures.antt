@@ -4,7 +4,8 @@ use Rattle.a95_base.specs.Breaks.{broken_at}
 use Rattle.f95_unit.specs.declared.unit.Intent.TheVariants as intent
 use Rattle.f95_unit.specs.Plain.{Print, Read, Stop, Return, If, no_branch, branch, Program}
 use Rattle.proc_check.specs.Listed.{breaks_of}
-use Rattle.proc_check_rows.specs.Build.{truth, stmts, calls, integer, own, dummy, no_prefix, with_recursive, with_pure, with_elemental, subroutine, function, program}
+use Rattle.proc_check_rows.specs.Build.{truth, stmts, calls, integer, own, dummy, no_prefix, with_recursive, with_pure}
+use Rattle.proc_check_rows.specs.Build.{with_elemental, subroutine, function, program}
 
 -- 1 program p
 -- 2 contains

@@ -1,5 +1,6 @@
 -- Extents as natural numbers, their product, and the product under a cap.
-use Rattle.std.proofs.Common.{◌≡◌, ℕ, ℤ, pos, zero, suc, min, ◌+◌, ◌*◌, ◌-◌, ◌^◌, ◌<◌, List, [], ◌∷◌, length, get_or, drop, unsigned_abs, sym, ap, ◌∙◌, arith}
+use Rattle.std.proofs.Common.{◌≡◌, ℕ, ℤ, pos, zero, suc, min, ◌+◌, ◌*◌, ◌-◌, ◌^◌, ◌<◌, List, [], ◌∷◌, length, get_or, drop}
+use Rattle.std.proofs.Common.{unsigned_abs, sym, ap, ◌∙◌, arith}
 use Rattle.std.proofs.Math.Nat.{mul_assoc}
 use Rattle.std.proofs.lemmas.Nat.{mul-le}
 use Rattle.std.proofs.lemmas.List.{drop_more, length-map}
@@ -20,7 +21,9 @@ capped a zero most = grind arith
 capped a (suc r) most = grind (arith, mul-le)
 
 -- one more factor, by arithmetic of 64 bits that saturates
-pub capped_step : (extents : List ℕ) (k size next : ℕ) → k < length extents → next ≡ min (min (size * get_or extents k 0) (2 ^ 64 - 1)) (2 ^ 24 + 1) → min (next * size_of (drop (k + 1) extents)) (2 ^ 24 + 1) ≡ min (size * size_of (drop k extents)) (2 ^ 24 + 1)
+pub capped_step : (extents : List ℕ) (k size next : ℕ) → k < length extents →
+    next ≡ min (min (size * get_or extents k 0) (2 ^ 64 - 1)) (2 ^ 24 + 1) →
+    min (next * size_of (drop (k + 1) extents)) (2 ^ 24 + 1) ≡ min (size * size_of (drop k extents)) (2 ^ 24 + 1)
 capped_step extents k size next below is =
     let extent : ℕ = get_or extents k 0 in
     let rest : ℕ = size_of (drop (k + 1) extents) in

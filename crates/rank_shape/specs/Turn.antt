@@ -15,5 +15,6 @@ abbrev pub visited : List Level → List ℕ → List ℕ → ℕ → List ℕ
 visited [] extents place turn = place
 visited (level ∷ inner) extents place turn =
     visited inner extents
-    (slice_set place (level.number - 1) (subscript_at level.down (slice_index extents (level.number - 1)) (turn / turns_in inner extents)))
+    (slice_set place (level.number - 1)
+    (subscript_at level.down (slice_index extents (level.number - 1)) (turn / turns_in inner extents)))
     (turn % turns_in inner extents)

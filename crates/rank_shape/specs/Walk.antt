@@ -14,7 +14,8 @@ turns_of true extent = reverse (count_to extent)
 abbrev pub tour_from : List Level → List ℕ → List ℕ → List (List ℕ)
 tour_from [] extents place = place ∷ []
 tour_from (level ∷ inner) extents place =
-    flat_map (λ i. tour_from inner extents (slice_set place (level.number - 1) i)) (turns_of level.down (slice_index extents (level.number - 1)))
+    flat_map (λ i. tour_from inner extents (slice_set place (level.number - 1) i))
+    (turns_of level.down (slice_index extents (level.number - 1)))
 
 abbrev pub tour : List Level → List ℕ → List (List ℕ)
 tour order extents = tour_from order extents (map (λ extent. 0) extents)

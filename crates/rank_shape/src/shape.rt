@@ -1,5 +1,6 @@
 //! Shapes, places and their numbers.
-ghost use Rattle.std.specs.Prelude.{◌≡◌, pos, min, ◌+◌, ◌<◌, ◌≤◌, ◌<ℤ◌, ◌≤ℤ◌, ◌↔◌, length, map, unsigned_abs, slice_index, IsSome, IfSome};
+ghost use Rattle.std.specs.Prelude.{◌≡◌, pos, min, ◌+◌, ◌<◌, ◌≤◌, ◌<ℤ◌, ◌≤ℤ◌, ◌↔◌, length, map, unsigned_abs, slice_index, IsSome};
+ghost use Rattle.std.specs.Prelude.{IfSome};
 ghost use Rattle.a95_base.specs.Limits.{most_elements};
 ghost use Rattle.rank_shape.specs.Shape.{IsRank, AreNatural, naturals, size_of, IsShape, IsPlace, number_of, place_at};
 

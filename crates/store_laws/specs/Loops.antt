@@ -12,7 +12,8 @@ run_each body (turn ∷ turns) s = and_then (body turn s) (run_each body turns)
 abbrev pub nested : {S F : Type 0} → (List ℕ → S → Result S F) → List Level → List ℕ → List ℕ → S → Result S F
 nested body [] extents place s = body place s
 nested body (level ∷ inner) extents place s =
-    run_each (λ i s. nested body inner extents (slice_set place (level.number - 1) i) s) (turns_of level.down (slice_index extents (level.number - 1))) s
+    run_each (λ i s. nested body inner extents (slice_set place (level.number - 1) i) s)
+    (turns_of level.down (slice_index extents (level.number - 1))) s
 
 -- the place at which all loops stand before the first turn
 abbrev pub start_of : List ℕ → List ℕ
@@ -31,5 +32,6 @@ pub record KeepsSound {S F : Type 0} (step : S → Result S F) (Sound : S → Ty
   pub kept : (s after : S) → Sound s → step s ≡ Ok after → Sound after
 
 -- a step and a turn of a loop may change places, also where the step stops the run
-pub record Passes {T S F : Type 0} (step : S → Result S F) (body : T → S → Result S F) (Sound : S → Type 0) (turn : T) : Type 0 where
-  pub same : (s : S) → Sound s → and_then (step s) (body turn) ≡ and_then (body turn s) step
+pub record Passes {T S F : Type 0} (step : S → Result S F) (body : T → S → Result S F) (Sound : S → Type 0) (turn : T) : Type 0
+  where
+    pub same : (s : S) → Sound s → and_then (step s) (body turn) ≡ and_then (body turn s) step

@@ -6,7 +6,8 @@ use Rattle.rank_shape.specs.Order.{Level, element_order_of}
 use Rattle.rank_shape.specs.Shape.{IsPlace}
 use Rattle.rank_shape.specs.Walk.{tour}
 use Rattle.rank_shape.specs.declared.distance.Entry.{Entry}
-use Rattle.store_laws.specs.Store.{and_then, Evaluated, Statement, direct, values, store_all, Keeps, Ignores, IsStill, StopsAlike, Temporary, filling, store_kept, IsKeptApart, KeepsOther}
+use Rattle.store_laws.specs.Store.{and_then, Evaluated, Statement, direct, values, store_all, Keeps, Ignores, IsStill, StopsAlike}
+use Rattle.store_laws.specs.Store.{Temporary, filling, store_kept, IsKeptApart, KeepsOther}
 use Rattle.store_laws.specs.Legal.{IsTold, KeepsPlaces}
 
 -- an element is among those
@@ -138,4 +139,5 @@ TestedBetween T S V F =
     IsTrue (sound s) →
     tested_between statement temporary twice fault turns s
     ≡ and_then (values statement turns s)
-    (λ es. unless (stands_twice (elements_of elements turns es.value)) fault (store_all (filling statement temporary) turns es.value (store_all statement turns es.value es.after)))
+    (λ es. unless (stands_twice (elements_of elements turns es.value)) fault
+    (store_all (filling statement temporary) turns es.value (store_all statement turns es.value es.after)))

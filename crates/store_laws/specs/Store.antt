@@ -38,21 +38,26 @@ abbrev pub deferred : {T S V F : Type 0} → Statement T S V F → List T → S 
 deferred statement turns s = and_then (values statement turns s) (λ es. Ok (store_all statement turns es.value es.after))
 
 -- a turn keeps the states sound and gives only values that it may store
-pub record Keeps {T S V F : Type 0} (statement : Statement T S V F) (Sound : S → Type 0) (May : T → V → Type 0) (turn : T) : Type 0 where
-  pub evaluated : (s : S) (e : Evaluated V S) → Sound s → statement.evaluate turn s ≡ Ok e → Sound e.after × May turn e.value
-  pub stored : (v : V) (s : S) → Sound s → May turn v → Sound (statement.store turn v s)
+pub record Keeps {T S V F : Type 0} (statement : Statement T S V F) (Sound : S → Type 0) (May : T → V → Type 0) (turn : T) : Type 0
+  where
+    pub evaluated : (s : S) (e : Evaluated V S) → Sound s → statement.evaluate turn s ≡ Ok e → Sound e.after × May turn e.value
+    pub stored : (v : V) (s : S) → Sound s → May turn v → Sound (statement.store turn v s)
 
 -- what the later turn evaluates is the same before and after the earlier one's store
-pub record Ignores {T S V F : Type 0} (statement : Statement T S V F) (Sound : S → Type 0) (May : T → V → Type 0) (turn later : T) : Type 0 where
-  pub same : (v : V) (s : S) → Sound s → May turn v → statement.evaluate later (statement.store turn v s) ≡ and_then (statement.evaluate later s) (λ e. Ok (record { value = e.value; after = statement.store turn v e.after }))
+pub record Ignores {T S V F : Type 0} (statement : Statement T S V F) (Sound : S → Type 0) (May : T → V → Type 0)
+    (turn later : T) : Type 0 where
+  pub same : (v : V) (s : S) → Sound s → May turn v → statement.evaluate later (statement.store turn v s)
+      ≡ and_then (statement.evaluate later s) (λ e. Ok (record { value = e.value; after = statement.store turn v e.after }))
 
 -- the evaluation leaves the state alone
 pub record IsStill {T S V F : Type 0} (statement : Statement T S V F) (Sound : S → Type 0) (turn : T) : Type 0 where
   pub after : (s : S) (e : Evaluated V S) → Sound s → statement.evaluate turn s ≡ Ok e → e.after ≡ s
 
 -- the two stores may change places
-pub record Commutes {T S V F : Type 0} (statement : Statement T S V F) (Sound : S → Type 0) (May : T → V → Type 0) (turn other : T) : Type 0 where
-  pub same : (v w : V) (s : S) → Sound s → May turn v → May other w → statement.store turn v (statement.store other w s) ≡ statement.store other w (statement.store turn v s)
+pub record Commutes {T S V F : Type 0} (statement : Statement T S V F) (Sound : S → Type 0) (May : T → V → Type 0)
+    (turn other : T) : Type 0 where
+  pub same : (v w : V) (s : S) → Sound s → May turn v → May other w → statement.store turn v (statement.store other w s)
+      ≡ statement.store other w (statement.store turn v s)
 
 -- where both turns stop the run, they do so alike
 pub record StopsAlike {T S V F : Type 0} (statement : Statement T S V F) (s : S) (turn other : T) : Type 0 where
@@ -70,18 +75,23 @@ filling statement temporary = record { evaluate = statement.evaluate; store = te
 -- the second stores from it
 abbrev pub store_kept : {T S V F : Type 0} → Statement T S V F → Temporary T S V → List T → S → S
 store_kept statement temporary [] s = s
-store_kept statement temporary (turn ∷ turns) s = store_kept statement temporary turns (statement.store turn (temporary.fetch turn s) s)
+store_kept statement temporary (turn ∷ turns) s = store_kept statement temporary turns
+    (statement.store turn (temporary.fetch turn s) s)
 
 abbrev pub through : {T S V F : Type 0} → Statement T S V F → Temporary T S V → List T → S → Result S F
 through statement temporary turns s =
     and_then (direct (filling statement temporary) turns s) (λ filled. Ok (store_kept statement temporary turns filled))
 
 -- the temporary gives back what it keeps, and no store touches it nor is touched by it
-pub record IsKeptApart {T S V F : Type 0} (statement : Statement T S V F) (temporary : Temporary T S V) (Sound : S → Type 0) (May : T → V → Type 0) : Type 0 where
+pub record IsKeptApart {T S V F : Type 0} (statement : Statement T S V F) (temporary : Temporary T S V) (Sound : S → Type 0)
+    (May : T → V → Type 0) : Type 0 where
   pub given_back : (turn : T) (v : V) (s : S) → Sound s → May turn v → temporary.fetch turn (temporary.keep turn v s) ≡ v
-  pub untouched : (turn other : T) (v : V) (s : S) → Sound s → May other v → temporary.fetch turn (statement.store other v s) ≡ temporary.fetch turn s
-  pub aside : (turn other : T) (v w : V) (s : S) → Sound s → May turn v → May other w → statement.store turn v (temporary.keep other w s) ≡ temporary.keep other w (statement.store turn v s)
+  pub untouched : (turn other : T) (v : V) (s : S) → Sound s → May other v → temporary.fetch turn (statement.store other v s)
+      ≡ temporary.fetch turn s
+  pub aside : (turn other : T) (v w : V) (s : S) → Sound s → May turn v → May other w →
+      statement.store turn v (temporary.keep other w s) ≡ temporary.keep other w (statement.store turn v s)
 
 -- the two turns have different places in the temporary
-pub record KeepsOther {T S V : Type 0} (temporary : Temporary T S V) (Sound : S → Type 0) (May : T → V → Type 0) (turn later : T) : Type 0 where
+pub record KeepsOther {T S V : Type 0} (temporary : Temporary T S V) (Sound : S → Type 0) (May : T → V → Type 0)
+    (turn later : T) : Type 0 where
   pub same : (v : V) (s : S) → Sound s → May later v → temporary.fetch turn (temporary.keep later v s) ≡ temporary.fetch turn s

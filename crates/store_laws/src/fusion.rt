@@ -2,8 +2,10 @@
 //! what the nests of a statement are in `specs/Bodies.antt`.
 
 ghost use Rattle.loop_order.specs.Legal.{IsLegal, distances_of, turned};
-ghost use Rattle.store_laws.specs.Bodies.{DirectIsRun, DeferredIsTwoRuns, ThroughIsTwoRuns, BodyIsQuiet, BodyKeepsSound, BodiesPass};
-ghost use Rattle.store_laws.specs.Fusion.{FusedByDistances, FusedByAccesses, FusableByAccesses, GroupIsQuiet, GroupKeepsSound, GroupLetsPass, GroupPasses, GroupIsOneLoop, GroupIsOneNest};
+ghost use Rattle.store_laws.specs.Bodies.{DirectIsRun, DeferredIsTwoRuns, ThroughIsTwoRuns, BodyIsQuiet, BodyKeepsSound};
+ghost use Rattle.store_laws.specs.Bodies.{BodiesPass};
+ghost use Rattle.store_laws.specs.Fusion.{FusedByDistances, FusedByAccesses, FusableByAccesses, GroupIsQuiet, GroupKeepsSound};
+ghost use Rattle.store_laws.specs.Fusion.{GroupLetsPass, GroupPasses, GroupIsOneLoop, GroupIsOneNest};
 
 use rank_shape::{Dist, Order, Shape};
 

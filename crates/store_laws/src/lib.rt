@@ -16,7 +16,8 @@ ghost use Rattle.rank_shape.specs.Walk.{tour};
 ghost use Rattle.loop_order.specs.Legal.{IsLegal, distances_of};
 ghost use Rattle.store_laws.specs.Legal.{IsTold, KeepsPlaces, IsFree};
 ghost use Rattle.store_laws.specs.Loops.{run_each, nested, both, start_of, IsQuiet, KeepsSound, Passes};
-ghost use Rattle.store_laws.specs.Store.{Statement, and_then, direct, values, store_all, deferred, Keeps, Ignores, IsStill, Commutes, StopsAlike, Temporary, filling, through, IsKeptApart, KeepsOther};
+ghost use Rattle.store_laws.specs.Store.{Statement, and_then, direct, values, store_all, deferred, Keeps, Ignores, IsStill};
+ghost use Rattle.store_laws.specs.Store.{Commutes, StopsAlike, Temporary, filling, through, IsKeptApart, KeepsOther};
 
 use rank_shape::{Dist, Order, Shape};
 
@@ -121,7 +122,8 @@ pub fn loops_made_one<T, S, F>()
 /// Two loops, of which the first keeps each value in a temporary and the second stores from it, do what a store after all
 /// evaluations does; besides that, the temporary then has the values.
 pub fn store_through_temporary<T, S, V, F>()
-    ensures { (statement : Statement T S V F) (temporary : Temporary T S V) (sound : S → Bool) (may : T → V → Bool) (turns : List T) (s : S) →
+    ensures { (statement : Statement T S V F) (temporary : Temporary T S V) (sound : S → Bool) (may : T → V → Bool) (turns : List T)
+        (s : S) →
         IsKeptApart statement temporary (λ s. IsTrue (sound s)) (λ t v. IsTrue (may t v)) →
         Every (Keeps statement (λ s. IsTrue (sound s)) (λ t v. IsTrue (may t v))) turns →
         Every (Keeps (filling statement temporary) (λ s. IsTrue (sound s)) (λ t v. IsTrue (may t v))) turns →

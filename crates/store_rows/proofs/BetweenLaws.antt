@@ -1,5 +1,6 @@
 -- The premises of the test between two loops through a temporary, met by a statement with marks.
-use Rattle.std.proofs.Common.{◌≡◌, ◌≢◌, ◌⊎◌, ◌==◌, ◌||◌, ℕ, ◌+◌, ◌<◌, List, [], ◌∷◌, length, Ok, get_or, set, refl, sym, ap, ◌∙◌, subst, inl, inr, arith}
+use Rattle.std.proofs.Common.{◌≡◌, ◌≢◌, ◌⊎◌, ◌==◌, ◌||◌, ℕ, ◌+◌, ◌<◌, List, [], ◌∷◌, length, Ok, get_or, set, refl, sym, ap, ◌∙◌}
+use Rattle.std.proofs.Common.{subst, inl, inr, arith}
 use Rattle.std.specs.Prelude.{IsTrue}
 use Rattle.std.proofs.lemmas.Bool.{eqb-true, ltb-true}
 use Rattle.std.proofs.lemmas.List.{get_or-set_other, get_or-set_same, length-set}
@@ -30,26 +31,36 @@ module _ (p : ℕ → ℕ) (near : (i : ℕ) → i < 3 → (p i ≡ i + 1) ⊎ (
   kept_apart : IsKeptApart (stored_later p) (kept_aside p) (λ s. IsTrue (is_wide s)) (λ turn v. IsTrue (is_turn turn))
   kept_apart = record {
     given_back = λ turn v s sound may.
-        get_or-set_same s.cells (turn_of turn + 4) v 0 (omega (arith, eqb-true (length s.cells) 7 sound, ltb-true (turn_of turn) 3 may));
-    untouched = λ turn other v s sound may. get_or-set_other s.cells (p (turn_of other)) (turn_of turn + 4) v 0 (before_kept turn other may);
+        get_or-set_same s.cells (turn_of turn + 4) v 0
+        (omega (arith, eqb-true (length s.cells) 7 sound, ltb-true (turn_of turn) 3 may));
+    untouched = λ turn other v s sound may. get_or-set_other s.cells (p (turn_of other)) (turn_of turn + 4) v 0
+        (before_kept turn other may);
     aside = λ turn other v w s sound may may_too.
-        ap (λ c. record { cells = c; marked = λ element. (element == p (turn_of other)) || s.marked element; again = s.marked (p (turn_of other)) || s.again })
+        ap (λ c. record {
+          cells = c;
+          marked = λ element. (element == p (turn_of other)) || s.marked element;
+          again =
+              s.marked (p (turn_of other)) || s.again;
+        })
         (set_commutes s.cells (turn_of other + 4) (p (turn_of turn)) w v (before_kept other turn may));
   }
 
-  keeps_at : (turn : List ℕ) → IsTrue (is_turn turn) → Keeps (stored_later p) (λ s. IsTrue (is_wide s)) (λ turn v. IsTrue (is_turn turn)) turn
+  keeps_at : (turn : List ℕ) → IsTrue (is_turn turn) → Keeps (stored_later p) (λ s. IsTrue (is_wide s))
+      (λ turn v. IsTrue (is_turn turn)) turn
   keeps_at turn inside = record {
     evaluated = λ s e sound is. (subst (λ x. IsTrue (is_wide x)) (sym (after_is turn s e is)) sound, inside);
     stored = λ v s sound may. stays_wide s.cells (p (turn_of turn)) v sound;
   }
 
-  fills_at : (turn : List ℕ) → IsTrue (is_turn turn) → Keeps (filling (stored_later p) (kept_aside p)) (λ s. IsTrue (is_wide s)) (λ turn v. IsTrue (is_turn turn)) turn
+  fills_at : (turn : List ℕ) → IsTrue (is_turn turn) → Keeps (filling (stored_later p) (kept_aside p)) (λ s. IsTrue (is_wide s))
+      (λ turn v. IsTrue (is_turn turn)) turn
   fills_at turn inside = record {
     evaluated = λ s e sound is. (subst (λ x. IsTrue (is_wide x)) (sym (after_is turn s e is)) sound, inside);
     stored = λ v s sound may. stays_wide s.cells (turn_of turn + 4) v sound;
   }
 
-  marks_at : (turn : List ℕ) → KeepsMarks (filling (stored_later p) (kept_aside p)) (element_of p) marks (λ s. IsTrue (is_wide s)) (λ turn v. IsTrue (is_turn turn)) turn
+  marks_at : (turn : List ℕ) → KeepsMarks (filling (stored_later p) (kept_aside p)) (element_of p) marks (λ s. IsTrue (is_wide s))
+      (λ turn v. IsTrue (is_turn turn)) turn
   marks_at turn = record {
     marked = λ v s other sound may. or_once (other == p (turn_of turn)) (s.marked other);
     again = λ v s sound may. or_again (s.marked (p (turn_of turn))) s.again;
@@ -57,15 +68,19 @@ module _ (p : ℕ → ℕ) (near : (i : ℕ) → i < 3 → (p i ≡ i + 1) ⊎ (
     left_twice = λ s e sound is. ap (λ x. x.again) (after_is turn s e is);
   }
 
-  ignores_at : (turn later : List ℕ) → turn_of later ≢ turn_of turn + 4 → Ignores (filling (stored_later p) (kept_aside p)) (λ s. IsTrue (is_wide s)) (λ turn v. IsTrue (is_turn turn)) turn later
+  ignores_at : (turn later : List ℕ) → turn_of later ≢ turn_of turn + 4 →
+      Ignores (filling (stored_later p) (kept_aside p)) (λ s. IsTrue (is_wide s)) (λ turn v. IsTrue (is_turn turn)) turn later
   ignores_at turn later apart = record {
     same = λ v s sound may.
         let after : Memory = (kept_aside p).keep turn v s in
-        ap (λ x. Ok (record { value = x + 10; after = after })) (get_or-set_other s.cells (turn_of turn + 4) (turn_of later) v 0 apart);
+        ap (λ x. Ok (record { value = x + 10; after = after }))
+        (get_or-set_other s.cells (turn_of turn + 4) (turn_of later) v 0 apart);
   }
 
-  others_at : (turn later : List ℕ) → turn_of turn + 4 ≢ turn_of later + 4 → KeepsOther (kept_aside p) (λ s. IsTrue (is_wide s)) (λ turn v. IsTrue (is_turn turn)) turn later
-  others_at turn later apart = record { same = λ v s sound may. get_or-set_other s.cells (turn_of later + 4) (turn_of turn + 4) v 0 apart }
+  others_at : (turn later : List ℕ) → turn_of turn + 4 ≢ turn_of later + 4 →
+      KeepsOther (kept_aside p) (λ s. IsTrue (is_wide s)) (λ turn v. IsTrue (is_turn turn)) turn later
+  others_at turn later apart =
+      record { same = λ v s sound may. get_or-set_other s.cells (turn_of later + 4) (turn_of turn + 4) v 0 apart }
 
   premises_of : Premises p
   premises_of =
@@ -76,10 +91,17 @@ module _ (p : ℕ → ℕ) (near : (i : ℕ) → i < 3 → (p i ≡ i + 1) ⊎ (
         apart = kept_apart;
         keeps = (keeps_at t0 refl, (keeps_at t1 refl, (keeps_at t2 refl, tt)));
         fills = (fills_at t0 refl, (fills_at t1 refl, (fills_at t2 refl, tt)));
-        ignores = ((ignores_at t0 t1 (λ is. omega (arith, is)), (ignores_at t0 t2 (λ is. omega (arith, is)), tt)), ((ignores_at t1 t2 (λ is. omega (arith, is)), tt), (tt, tt)));
-        others = ((others_at t0 t1 (λ is. omega (arith, is)), (others_at t0 t2 (λ is. omega (arith, is)), tt)), ((others_at t1 t2 (λ is. omega (arith, is)), tt), (tt, tt)));
+        ignores = (
+          (ignores_at t0 t1 (λ is. omega (arith, is)), (ignores_at t0 t2 (λ is. omega (arith, is)), tt)),
+          ((ignores_at t1 t2 (λ is. omega (arith, is)), tt), (tt, tt)),
+        );
+        others = (
+          (others_at t0 t1 (λ is. omega (arith, is)), (others_at t0 t2 (λ is. omega (arith, is)), tt)),
+          ((others_at t1 t2 (λ is. omega (arith, is)), tt), (tt, tt)),
+        );
         tells =
-            marks_tell (filling (stored_later p) (kept_aside p)) (element_of p) marks (λ s. IsTrue (is_wide s)) (λ turn v. IsTrue (is_turn turn)) (tour forwards extents) wide
+            marks_tell (filling (stored_later p) (kept_aside p)) (element_of p) marks (λ s. IsTrue (is_wide s))
+            (λ turn v. IsTrue (is_turn turn)) (tour forwards extents) wide
             (fills_at t0 refl, (fills_at t1 refl, (fills_at t2 refl, tt))) (marks_at t0, (marks_at t1, (marks_at t2, tt)))
             (record { marked = λ element. refl; twice = refl }) refl;
       }

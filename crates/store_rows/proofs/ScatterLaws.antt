@@ -1,5 +1,6 @@
 -- The premises of the test behind the stores, met by a statement with marks.
-use Rattle.std.proofs.Common.{◌≡◌, ◌≢◌, ◌⊎◌, ◌==◌, ◌||◌, ℕ, zero, suc, ◌+◌, ◌<◌, Bool, true, false, List, Ok, get_or, refl, sym, ap, ◌∙◌, inl, inr, arith}
+use Rattle.std.proofs.Common.{◌≡◌, ◌≢◌, ◌⊎◌, ◌==◌, ◌||◌, ℕ, zero, suc, ◌+◌, ◌<◌, Bool, true, false, List, Ok, get_or, refl, sym, ap}
+use Rattle.std.proofs.Common.{◌∙◌, inl, inr, arith}
 use Rattle.std.specs.Prelude.{IsTrue}
 use Rattle.std.proofs.Math.Path.{fun_ext}
 use Rattle.std.proofs.lemmas.Bool.{cases_eq, eq-eqb, ne_eqb, false≢true}
@@ -54,14 +55,17 @@ module _ (p : ℕ → ℕ) where
       (record { marked = λ element. refl; twice = refl }) refl
 
   -- a turn that reads no element which the other stores ignores it
-  ignores_at : (turn later : List ℕ) → p (turn_of turn) ≢ turn_of later → Ignores (scattered p) (λ s. IsTrue true) (λ turn v. IsTrue true) turn later
+  ignores_at : (turn later : List ℕ) → p (turn_of turn) ≢ turn_of later →
+      Ignores (scattered p) (λ s. IsTrue true) (λ turn v. IsTrue true) turn later
   ignores_at turn later apart = record {
     same = λ v s sound may.
         let after : Memory = (scattered p).store turn v s in
-        ap (λ x. Ok (record { value = x + 10; after = after })) (get_or-set_other s.cells (p (turn_of turn)) (turn_of later) v 0 (λ same. apart (sym same)));
+        ap (λ x. Ok (record { value = x + 10; after = after }))
+        (get_or-set_other s.cells (p (turn_of turn)) (turn_of later) v 0 (λ same. apart (sym same)));
   }
 
-  told_by : ((i : ℕ) → i < 3 → (p i ≡ i + 1) ⊎ (p i ≡ i)) → IsTold (scattered p) (λ s. IsTrue true) (λ turn v. IsTrue true) extents distances
+  told_by : ((i : ℕ) → i < 3 → (p i ≡ i + 1) ⊎ (p i ≡ i)) → IsTold (scattered p) (λ s. IsTrue true) (λ turn v. IsTrue true) extents
+      distances
   told_by near = record {
     told = λ stores reads stores_in reads_in apart.
         elim (cases_eq (p (turn_of stores)) (turn_of reads)) [
@@ -69,24 +73,28 @@ module _ (p : ℕ → ℕ) where
           | inl same ↦
               inr (elim (near (turn_of stores) (turn_below stores stores_in)) [
                 | inl one ↦ let m = one_later stores reads stores_in reads_in (sym same ∙ one) in (m.distance, (m.listed, m.apart))
-                | inr here ↦ let m = same_turn stores reads stores_in reads_in (sym same ∙ here) in (m.distance, (m.listed, m.apart))
+                | inr here ↦ let m = same_turn stores reads stores_in reads_in (sym same ∙ here) in
+                    (m.distance, (m.listed, m.apart))
               ])
         ];
   }
 
-  commutes_at : (turn other : List ℕ) → CommutesApart (scattered p) (element_of p) (λ s. IsTrue true) (λ turn v. IsTrue true) turn other
+  commutes_at : (turn other : List ℕ) → CommutesApart (scattered p) (element_of p) (λ s. IsTrue true) (λ turn v. IsTrue true) turn
+      other
   commutes_at turn other = record {
     same = λ v w s sound may may_too once.
         let i : ℕ = p (turn_of turn) in
         let j : ℕ = p (turn_of other) in
         let apart : i ≢ j = λ same. false≢true (sym once ∙ ap (λ b. (b || false) || (false || false)) (eq-eqb i j same)) in
-        memory_same ((scattered p).store turn v ((scattered p).store other w s)) ((scattered p).store other w ((scattered p).store turn v s))
+        memory_same ((scattered p).store turn v ((scattered p).store other w s))
+        ((scattered p).store other w ((scattered p).store turn v s))
         (set_commutes s.cells j i w v (λ same. apart (sym same)))
         (fun_ext (λ e. or_swapped (e == i) (e == j) (s.marked e)))
         (again_same i j s apart);
   }
     where
-      again_same : (i j : ℕ) (s : Memory) → i ≢ j → (((i == j) || s.marked i) || (s.marked j || s.again)) ≡ (((j == i) || s.marked j) || (s.marked i || s.again))
+      again_same : (i j : ℕ) (s : Memory) → i ≢ j → (((i == j) || s.marked i) || (s.marked j || s.again))
+          ≡ (((j == i) || s.marked j) || (s.marked i || s.again))
       again_same i j s apart =
           ap (λ b. (b || s.marked i) || (s.marked j || s.again)) (ne_eqb i j apart)
           ∙ or_swapped (s.marked i) (s.marked j) s.again

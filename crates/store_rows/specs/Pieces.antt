@@ -1,6 +1,7 @@
 -- Small nests with numbers: `a(2:4) = b(1:3) + 10`, `b(1:3) = a(1:3)` and `c(1:3) = b(1:3) + a(2:4)`. The memory is a list
 -- of cells, in which `a` has the places 0 to 3, `b` those from 4 to 6 and `c` those from 7 to 9.
-use Rattle.std.specs.Prelude.{ℕ, ◌+◌, pos, Bool, true, false, IsTrue, List, [], ◌∷◌, Result, Ok, map, sum, slice_index, slice_index_or, slice_set}
+use Rattle.std.specs.Prelude.{ℕ, ◌+◌, pos, Bool, true, false, IsTrue, List, [], ◌∷◌, Result, Ok, map, sum, slice_index}
+use Rattle.std.specs.Prelude.{slice_index_or, slice_set}
 use Rattle.rank_shape.specs.Order.{Level}
 use Rattle.rank_shape.specs.declared.distance.Entry.{Entry}
 use Rattle.rank_shape.specs.declared.distance.Entry.TheVariants as entry

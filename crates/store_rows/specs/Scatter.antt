@@ -1,5 +1,6 @@
 -- `forall (i = 1:3) a(p(i)) = a(i) + 10`, whose nest marks each element that it stores into. Places are counted from 0.
-use Rattle.std.specs.Prelude.{ℕ, ◌+◌, ◌==◌, ◌||◌, Bool, true, false, IsTrue, List, [], ◌∷◌, Result, Ok, Err, min, slice_index, slice_set}
+use Rattle.std.specs.Prelude.{ℕ, ◌+◌, ◌==◌, ◌||◌, Bool, true, false, IsTrue, List, [], ◌∷◌, Result, Ok, Err, min, slice_index}
+use Rattle.std.specs.Prelude.{slice_set}
 use Rattle.rank_shape.specs.Walk.{tour}
 use Rattle.store_laws.specs.Store.{Statement}
 use Rattle.store_laws.specs.Legal.{IsTold, KeepsPlaces}

@@ -1,6 +1,7 @@
 -- `where (10 / m > 0) a = 100 / d` over three elements. The memory is a list of cells, in which `a` has the places 0 to 2,
 -- `m` those from 3 to 5 and `d` those from 6 to 8; in place 9 calls are counted.
-use Rattle.std.specs.Prelude.{ℕ, ◌+◌, ◌/◌, ◌==◌, true, not, IsTrue, if◌then◌else◌, List, [], ◌∷◌, Result, Ok, Err, slice_index, slice_set}
+use Rattle.std.specs.Prelude.{ℕ, ◌+◌, ◌/◌, ◌==◌, true, not, IsTrue, if◌then◌else◌, List, [], ◌∷◌, Result, Ok, Err, slice_index}
+use Rattle.std.specs.Prelude.{slice_set}
 use Rattle.a95_base.specs.Lists.{Every, Pairwise}
 use Rattle.store_laws.specs.Store.{and_then, Evaluated, Statement, Keeps, IsStill}
 use Rattle.store_laws.specs.Masked.{Mask, IsStillMask, StopsLikeMask, IsQuietMask, LeavesMask}
@@ -47,7 +48,9 @@ nonzero turn s = Ok (record { value = not (slice_index s (turn_of turn + 3) == 0
 -- a = d + f(), where f says how often it was called before
 abbrev pub called : Statement (List ℕ) (List ℕ) ℕ ℕ
 called = record {
-  evaluate = λ turn s. Ok (record { value = slice_index s (turn_of turn + 6) + slice_index s 9; after = slice_set s 9 (slice_index s 9 + 1) });
+  evaluate =
+      λ turn s. Ok
+      (record { value = slice_index s (turn_of turn + 6) + slice_index s 9; after = slice_set s 9 (slice_index s 9 + 1) });
   store = λ turn v s. slice_set s (turn_of turn) v;
 }
 

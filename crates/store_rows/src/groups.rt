@@ -8,7 +8,8 @@ ghost use Rattle.store_laws.specs.Bodies.{at_once, from_kept};
 ghost use Rattle.store_laws.specs.Fusion.{AreMeasured, nest_each, all_of};
 ghost use Rattle.store_laws.specs.Loops.{run_each, nested, both, start_of};
 ghost use Rattle.store_laws.specs.Store.{and_then, direct, deferred, filling, through};
-ghost use Rattle.store_rows.specs.Pieces.{Fusable, TurnsApart, accesses_of, added, backwards, body_of, cells, copied, distances, extents, forwards, kept, moved, shifted};
+ghost use Rattle.store_rows.specs.Pieces.{Fusable, TurnsApart, accesses_of, added, backwards, body_of, cells, copied, distances};
+ghost use Rattle.store_rows.specs.Pieces.{extents, forwards, kept, moved, shifted};
 
 /// `a(2:4) = b(1:3) + 10` and `b(1:3) = a(1:3)`: the first stores `a` one turn before the second reads it, so the two are
 /// one loop that runs forwards. Backwards the second would read `a` too soon.
@@ -18,7 +19,8 @@ pub fn two_nests()
     ensures turns_apart { TurnsApart shifted copied (0 ∷ []) (2 ∷ []) }
     ensures fusable { Fusable shifted copied }
     ensures legal { IsLegal (turned forwards) distances }
-    ensures apart { and_then (nested (body_of shifted) forwards extents (start_of extents) cells) (nested (body_of copied) forwards extents (start_of extents))
+    ensures apart { and_then (nested (body_of shifted) forwards extents (start_of extents) cells)
+        (nested (body_of copied) forwards extents (start_of extents))
         ≡ Ok (1 ∷ 15 ∷ 16 ∷ 17 ∷ 1 ∷ 15 ∷ 16 ∷ 0 ∷ 0 ∷ 0 ∷ []) }
     ensures fused { nested (both (body_of shifted) (body_of copied)) forwards extents (start_of extents) cells
         ≡ Ok (1 ∷ 15 ∷ 16 ∷ 17 ∷ 1 ∷ 15 ∷ 16 ∷ 0 ∷ 0 ∷ 0 ∷ []) }
@@ -41,7 +43,8 @@ pub fn three_nests()
 pub fn forms()
     ensures deferred { deferred moved (tour forwards extents) cells ≡ Ok (1 ∷ 11 ∷ 12 ∷ 13 ∷ 5 ∷ 6 ∷ 7 ∷ 0 ∷ 0 ∷ 0 ∷ []) }
     ensures through { through moved kept (tour forwards extents) cells ≡ Ok (1 ∷ 11 ∷ 12 ∷ 13 ∷ 11 ∷ 12 ∷ 13 ∷ 0 ∷ 0 ∷ 0 ∷ []) }
-    ensures two_runs { and_then (run_each (at_once (filling moved kept)) (tour forwards extents) cells) (run_each (from_kept moved kept) (tour forwards extents))
+    ensures two_runs { and_then (run_each (at_once (filling moved kept)) (tour forwards extents) cells)
+        (run_each (from_kept moved kept) (tour forwards extents))
         ≡ Ok (1 ∷ 11 ∷ 12 ∷ 13 ∷ 11 ∷ 12 ∷ 13 ∷ 0 ∷ 0 ∷ 0 ∷ []) }
     ensures direct { direct moved (tour forwards extents) cells ≡ Ok (1 ∷ 11 ∷ 21 ∷ 31 ∷ 5 ∷ 6 ∷ 7 ∷ 0 ∷ 0 ∷ 0 ∷ []) }
     ensures one_run { run_each (at_once moved) (tour forwards extents) cells ≡ Ok (1 ∷ 11 ∷ 21 ∷ 31 ∷ 5 ∷ 6 ∷ 7 ∷ 0 ∷ 0 ∷ 0 ∷ []) }

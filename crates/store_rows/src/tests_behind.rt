@@ -17,7 +17,8 @@ ghost use Rattle.store_rows.specs.Scatter.{Premises, element_of, once, scattered
 pub fn one_one()
     ensures premises { Premises once }
     ensures legal { IsLegal backwards distances }
-    ensures meant { seen (tested (scattered once) (element_of once) 5 (tour (element_order_of 1) extents) start) ≡ Ok (1 ∷ 11 ∷ 12 ∷ 13 ∷ []) }
+    ensures meant { seen (tested (scattered once) (element_of once) 5 (tour (element_order_of 1) extents) start)
+        ≡ Ok (1 ∷ 11 ∷ 12 ∷ 13 ∷ []) }
     ensures behind { seen (tested_behind (scattered once) (λ s. s.again) 5 (tour backwards extents) start) ≡ Ok (1 ∷ 11 ∷ 12 ∷ 13 ∷ []) }
     ensures forwards { seen (direct (scattered once) (tour (element_order_of 1) extents) start) ≡ Ok (1 ∷ 11 ∷ 21 ∷ 31 ∷ []) }
 {}
@@ -37,7 +38,9 @@ pub fn many_one()
 pub fn between_loops()
     ensures once_premises { between.Premises once }
     ensures twice_premises { between.Premises twice }
-    ensures once { seen (tested_between (stored_later once) (kept_aside once) (λ s. s.again) 5 (tour forwards extents) wide) ≡ Ok (1 ∷ 11 ∷ 12 ∷ 13 ∷ 11 ∷ 12 ∷ 13 ∷ []) }
+    ensures once { seen (tested_between (stored_later once) (kept_aside once) (λ s. s.again) 5 (tour forwards extents) wide)
+        ≡ Ok (1 ∷ 11 ∷ 12 ∷ 13 ∷ 11 ∷ 12 ∷ 13 ∷ []) }
     ensures twice { seen (tested_between (stored_later twice) (kept_aside twice) (λ s. s.again) 5 (tour forwards extents) wide) ≡ Err 5 }
-    ensures untested { seen (through (stored_later twice) (kept_aside twice) (tour forwards extents) wide) ≡ Ok (1 ∷ 11 ∷ 13 ∷ 4 ∷ 11 ∷ 12 ∷ 13 ∷ []) }
+    ensures untested { seen (through (stored_later twice) (kept_aside twice) (tour forwards extents) wide)
+        ≡ Ok (1 ∷ 11 ∷ 13 ∷ 4 ∷ 11 ∷ 12 ∷ 13 ∷ []) }
 {}

@@ -1,4 +1,5 @@
-use Rattle.names_types_rows.proofs.ModulesRows.{life_row, brought_again_row, brought_twice_row, not_above_row, module_variable_row, prefix_of_use_row}
+use Rattle.names_types_rows.proofs.ModulesRows.{life_row, brought_again_row, brought_twice_row, not_above_row, module_variable_row}
+use Rattle.names_types_rows.proofs.ModulesRows.{prefix_of_use_row}
 use Rattle.names_types_rows.proofs.modules_rows.Goals as goal
 
 pub returns : goal.returns

@@ -1,4 +1,5 @@
-use Rattle.names_types_rows.proofs.ScalarsRows.{twice_row, undeclared_row, constants_row, too_early_row, other_kind_row, overflow_row, one_fault_row, char_range_row, constructors_row}
+use Rattle.names_types_rows.proofs.ScalarsRows.{twice_row, undeclared_row, constants_row, too_early_row, other_kind_row}
+use Rattle.names_types_rows.proofs.ScalarsRows.{overflow_row, one_fault_row, char_range_row, constructors_row}
 use Rattle.names_types_rows.proofs.scalars_rows.Goals as goal
 
 pub returns : goal.returns

@@ -6,4 +6,5 @@ use Rattle.store_laws.proofs.store_at_once_in_legal_order.Goals as goal
 pub returns : goal.returns
 returns g c =
     λ statement sound may s known keeps is.
-    legal_direct statement (λ x. IsTrue (sound x)) (λ t v. IsTrue (may t v)) g.row.R c.args.shape.now c.args.order.now (distances_of g.row.R c.args.dists.now) s c.known.ensures.long c.known-2.ensures.order c.requires known keeps is
+    legal_direct statement (λ x. IsTrue (sound x)) (λ t v. IsTrue (may t v)) g.row.R c.args.shape.now c.args.order.now
+    (distances_of g.row.R c.args.dists.now) s c.known.ensures.long c.known-2.ensures.order c.requires known keeps is

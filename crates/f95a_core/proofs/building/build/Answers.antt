@@ -9,7 +9,8 @@ returns-in-Ok-write g c = record {
   comes = (
     record { failed = c.in-Ok.ensures.ok.1; faults = c.in-Ok.ensures.ok.0 },
     writes_text (g.H.Shelf.file c.args.shelf.now c.args.name.now) c.as_slice.result.now c.in-Ok-read.unit _
-        (stream (g.K.Sink.written c.args.out.now) (g.K.Sink.faults c.args.out.now)) (stream (g.K.Sink.written c.write.new.out) (g.K.Sink.faults c.write.new.out))
+        (stream (g.K.Sink.written c.args.out.now) (g.K.Sink.faults c.args.out.now))
+        (stream (g.K.Sink.written c.write.new.out) (g.K.Sink.faults c.write.new.out))
         (told_by _ _ _ c.as_slice.result.now c.new-source.ensures.items c.as_slice.ensures.value c.in-Ok.ensures.loaded)
         (record { reads = c.in-Ok-read.ensures.reads; typed = c.in-Ok-read.ensures.typed; size = c.in-Ok-read.ensures.size })
         c.new.ensures c.in-Ok-write.ensures.whole,
@@ -21,7 +22,8 @@ returns-in-Err-Failed-write g c = record {
   comes = (
     record { failed = c.in-Ok.ensures.ok.1; faults = c.in-Ok.ensures.ok.0 },
     writes_prefix (g.H.Shelf.file c.args.shelf.now c.args.name.now) c.as_slice.result.now c.in-Ok-read.unit _
-        (stream (g.K.Sink.written c.args.out.now) (g.K.Sink.faults c.args.out.now)) (stream (g.K.Sink.written c.write.new.out) (g.K.Sink.faults c.write.new.out))
+        (stream (g.K.Sink.written c.args.out.now) (g.K.Sink.faults c.args.out.now))
+        (stream (g.K.Sink.written c.write.new.out) (g.K.Sink.faults c.write.new.out))
         (told_by _ _ _ c.as_slice.result.now c.new-source.ensures.items c.as_slice.ensures.value c.in-Ok.ensures.loaded)
         (record { reads = c.in-Ok-read.ensures.reads; typed = c.in-Ok-read.ensures.typed; size = c.in-Ok-read.ensures.size })
         c.new.ensures c.in-Err-Failed-write.ensures.prefix,
@@ -34,7 +36,8 @@ returns-in-Ok-read g c = record {
   comes = (
     record { failed = c.in-Ok.ensures.ok.1; faults = c.in-Ok.ensures.ok.0 },
     inr (writes_prefix (g.H.Shelf.file c.args.shelf.now c.args.name.now) c.as_slice.result.now c.in-Ok-read.unit _
-        (stream (g.K.Sink.written c.args.out.now) (g.K.Sink.faults c.args.out.now)) (stream (g.K.Sink.written c.write.new.out) (g.K.Sink.faults c.write.new.out))
+        (stream (g.K.Sink.written c.args.out.now) (g.K.Sink.faults c.args.out.now))
+        (stream (g.K.Sink.written c.write.new.out) (g.K.Sink.faults c.write.new.out))
         (told_by _ _ _ c.as_slice.result.now c.new-source.ensures.items c.as_slice.ensures.value c.in-Ok.ensures.loaded)
         (record { reads = c.in-Ok-read.ensures.reads; typed = c.in-Ok-read.ensures.typed; size = c.in-Ok-read.ensures.size })
         c.new.ensures c.in-Err-Memory-write.ensures.prefix),

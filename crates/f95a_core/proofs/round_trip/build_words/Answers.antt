@@ -4,4 +4,5 @@ use Rattle.command_words.specs.Commands.{command_of}
 use Rattle.f95a_core.proofs.round_trip.build_words.Goals as goal
 
 pub returns : goal.returns
-returns c = IfOk-weaker c.words.result _ _ (λ words is. ap command_of is ∙ c.usual_words.ensures.build (codes "file") refl) c.words.ensures
+returns c = IfOk-weaker c.words.result _ _ (λ words is. ap command_of is ∙ c.usual_words.ensures.build (codes "file") refl)
+    c.words.ensures

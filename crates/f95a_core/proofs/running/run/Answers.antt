@@ -16,9 +16,13 @@ returns-in-Ok-new g c =
     let out = stream (g.K.Sink.written c.args.out.now) (g.K.Sink.faults c.args.out.now) in
     let written = stream (g.K.Sink.written c.run.new.sink) (g.K.Sink.faults c.run.new.sink) in
     let came = c.run.ensures.runs (ap (λ (m : machine.Running). m.ended) c.in-Ok-new.ensures) in
-    let there = subst (λ (m : machine.Running). machine.RunsTo m.functions m.state c.args.turns c.run.result c.run.new.self.state out.bytes written.bytes) c.in-Ok-new.ensures came in
+    let there =
+    subst (λ (m : machine.Running). machine.RunsTo m.functions m.state c.args.turns c.run.result c.run.new.self.state out.bytes
+    written.bytes) c.in-Ok-new.ensures came in
     record {
-      comes = subst (λ (s : Status). RunComesTo name c.args.turns before after input taken out written (c.take_all.new.input ≡ c.args.input.now) (c.run.new.sink ≡ c.args.out.now) s) (sym c.status_of.ensures)
+      comes = subst
+          (λ (s : Status). RunComesTo name c.args.turns before after input taken out written
+          (c.take_all.new.input ≡ c.args.input.now) (c.run.new.sink ≡ c.args.out.now) s) (sym c.status_of.ensures)
           (executed name c.args.turns before after input taken out written c.in-Ok-read.program c.in-Ok-take_all.bytes.items
           (record {
             loaded = record { failed = c.in-Ok.ensures.ok.1; faults = c.in-Ok.ensures.ok.0 };
@@ -27,5 +31,6 @@ returns-in-Ok-new g c =
             reads = c.in-Ok-read.ensures.found;
             taken = c.in-Ok-take_all.ensures.taken;
           })
-          (c.take_all.new.input ≡ c.args.input.now) (c.run.new.sink ≡ c.args.out.now) c.run.result c.run.new.self.state there (c.run.ensures.counted (ap (λ (m : machine.Running). m.ended) c.in-Ok-new.ensures)));
+          (c.take_all.new.input ≡ c.args.input.now) (c.run.new.sink ≡ c.args.out.now) c.run.result c.run.new.self.state there
+          (c.run.ensures.counted (ap (λ (m : machine.Running). m.ended) c.in-Ok-new.ensures)));
     }

@@ -1,4 +1,5 @@
-use Rattle.loop_laws.proofs.Numbered.{made_here, made_elsewhere, changed_here, changed_elsewhere, freed_here, freed_elsewhere, made_in_call, made_before_call}
+use Rattle.loop_laws.proofs.Numbered.{made_here, made_elsewhere, changed_here, changed_elsewhere, freed_here, freed_elsewhere}
+use Rattle.loop_laws.proofs.Numbered.{made_in_call, made_before_call}
 use Rattle.loop_laws.proofs.numbers.blocks_by_number.Goals as goal
 
 pub returns : goal.returns

@@ -1,4 +1,5 @@
-use Rattle.loop_laws.proofs.Within.{int_within, text_within, store_int_within, store_text_within, zeros_within, texts_within, grown_within, truth_holds, positive_holds}
+use Rattle.loop_laws.proofs.Within.{int_within, text_within, store_int_within, store_text_within, zeros_within, texts_within}
+use Rattle.loop_laws.proofs.Within.{grown_within, truth_holds, positive_holds}
 use Rattle.loop_laws.proofs.numbers.values_within.Goals as goal
 
 pub returns : goal.returns

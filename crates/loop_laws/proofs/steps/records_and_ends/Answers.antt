@@ -1,4 +1,5 @@
-use Rattle.loop_laws.proofs.Rows.{step_put_int, step_put_log, step_put_text, step_write, step_skip, step_source_line, step_stop, step_fault}
+use Rattle.loop_laws.proofs.Rows.{step_put_int, step_put_log, step_put_text, step_write, step_skip, step_source_line, step_stop}
+use Rattle.loop_laws.proofs.Rows.{step_fault}
 use Rattle.loop_laws.proofs.steps.records_and_ends.Goals as goal
 
 pub returns : goal.returns

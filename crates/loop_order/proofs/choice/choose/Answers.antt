@@ -8,10 +8,15 @@ use Rattle.loop_order.proofs.choice.choose.Goals as goal
 
 pub returns-then-free-clause-some : goal.returns-then-free-clause-some
 returns-then-free-clause-some g c =
-    let P : Bool → Type 0 = λ free. IfSome c.greedy.result (λ order. IsAllowed free g.row.R order × IsLegal order (distances_of g.row.R c.args.dists.now)) in
+    let P : Bool → Type 0 =
+    λ free. IfSome c.greedy.result
+    (λ order. IsAllowed free g.row.R order × IsLegal order (distances_of g.row.R c.args.dists.now)) in
     subst P (sym c.if-free.true) (choice_allowed g.row.R (distances_of g.row.R c.args.dists.now) c.greedy.result c.greedy.ensures)
 
 pub returns-then-free-clause-none : goal.returns-then-free-clause-none
 returns-then-free-clause-none g c =
-    let P : Bool → Type 0 = λ free. IfNone c.greedy.result ((order : List Level) → IsAllowed free g.row.R order → IsLegal order (distances_of g.row.R c.args.dists.now) → ⊥) in
-    subst P (sym c.if-free.true) (choice_misses_none g.row.R (distances_of g.row.R c.args.dists.now) c.greedy.result c.greedy.ensures)
+    let P : Bool → Type 0 =
+    λ free. IfNone c.greedy.result
+    ((order : List Level) → IsAllowed free g.row.R order → IsLegal order (distances_of g.row.R c.args.dists.now) → ⊥) in
+    subst P (sym c.if-free.true)
+    (choice_misses_none g.row.R (distances_of g.row.R c.args.dists.now) c.greedy.result c.greedy.ensures)

@@ -3,4 +3,5 @@ use Rattle.loop_order.proofs.Turned.{stores_first}
 use Rattle.loop_order.proofs.order.stores_come_first.Goals as goal
 
 pub returns : goal.returns
-returns g c = stores_first g.row.R c.args.order.now (distances_of g.row.R c.args.dists.now) c.args.shape.now c.known.ensures.order c.requires
+returns g c = stores_first g.row.R c.args.order.now (distances_of g.row.R c.args.dists.now) c.args.shape.now c.known.ensures.order
+    c.requires

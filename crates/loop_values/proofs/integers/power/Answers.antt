@@ -23,6 +23,8 @@ returns-in-Ok c =
     let exponent_fits : FitsUnsignedBits 32 c.wrap32.result = simp to_z-of_z at c.in-Ok.ensures.0 in
     let exponent_is : c.in-Ok.exponent ≡ unsigned_abs c.wrap32.result = simp to_z-of_z at c.in-Ok.ensures.1 in
     let low : c.wrap32.result ≡ wrapped c.args.y = simp to_z-of_z at c.wrap32.ensures in
-    let is : wrapped c.args.y ≡ pos c.in-Ok.exponent = sym low ∙ not_negative c.wrap32.result exponent_fits ∙ ap pos (sym exponent_is) in
-    ap Ok (to_z-of_z w64 c.from.result fits_r ∙ c.from.ensures ∙ to_z-of_z w32 c.raise.result fits_p ∙ power_ ∙ ap (λ b. raised b c.in-Ok.exponent) base)
+    let is : wrapped c.args.y ≡ pos c.in-Ok.exponent = sym low ∙ not_negative c.wrap32.result exponent_fits
+    ∙ ap pos (sym exponent_is) in
+    ap Ok (to_z-of_z w64 c.from.result fits_r ∙ c.from.ensures ∙ to_z-of_z w32 c.raise.result fits_p ∙ power_
+    ∙ ap (λ b. raised b c.in-Ok.exponent) base)
     ∙ ap (power_of (wrapped c.args.x)) (sym is)

@@ -5,4 +5,5 @@ use Rattle.loop_writer.proofs.printer.+put.Given as goal
 
 abbrev pub invariant-put_all-loop-statement : goal.invariant-put_all-loop-statement
 invariant-put_all-loop-statement l =
-    string_bytes l.out ++ with_line_feeds (map spell (flats (drop l.statement-index l.body))) ≡ string_bytes l.fn.out ++ with_line_feeds (map spell (flats l.body))
+    string_bytes l.out ++ with_line_feeds (map spell (flats (drop l.statement-index l.body))) ≡ string_bytes l.fn.out
+    ++ with_line_feeds (map spell (flats l.body))

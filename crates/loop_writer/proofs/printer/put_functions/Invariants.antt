@@ -4,4 +4,5 @@ use Rattle.loop_writer.proofs.printer.put_functions.Given as goal
 
 abbrev pub invariant-loop-number : goal.invariant-loop-number
 invariant-loop-number l =
-    string_bytes l.out ++ with_line_feeds (functions_lines l.number (drop l.number l.functions)) ≡ string_bytes l.fn.out ++ with_line_feeds (functions_lines 0 l.functions)
+    string_bytes l.out ++ with_line_feeds (functions_lines l.number (drop l.number l.functions)) ≡ string_bytes l.fn.out
+    ++ with_line_feeds (functions_lines 0 l.functions)

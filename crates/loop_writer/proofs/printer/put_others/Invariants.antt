@@ -4,4 +4,5 @@ use Rattle.loop_writer.proofs.printer.put_others.Given as goal
 
 abbrev pub invariant-loop-place : goal.invariant-loop-place
 invariant-loop-place l =
-    string_bytes l.out ++ flat_map (λ y. codes ", " ++ y) (parameters_text (l.place + 1) (drop l.place l.parameters)) ≡ string_bytes l.fn.out ++ flat_map (λ y. codes ", " ++ y) (parameters_text 1 l.parameters)
+    string_bytes l.out ++ flat_map (λ y. codes ", " ++ y) (parameters_text (l.place + 1) (drop l.place l.parameters))
+    ≡ string_bytes l.fn.out ++ flat_map (λ y. codes ", " ++ y) (parameters_text 1 l.parameters)

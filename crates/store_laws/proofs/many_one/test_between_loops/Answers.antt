@@ -5,4 +5,5 @@ use Rattle.store_laws.proofs.many_one.test_between_loops.Goals as goal
 pub returns : goal.returns
 returns g c =
     λ statement temporary elements twice fault sound may turns s apart keeps fills ignores others tells is.
-    between_is_before statement temporary elements fault (λ x. IsTrue (sound x)) (λ t v. IsTrue (may t v)) twice apart turns s keeps fills ignores others tells is
+    between_is_before statement temporary elements fault (λ x. IsTrue (sound x)) (λ t v. IsTrue (may t v)) twice apart turns s keeps
+    fills ignores others tells is

@@ -11,6 +11,9 @@ returns g c =
     let other_is = levels_of_fields c.args.other.now c.t2-1.inside.loops c.t2-1.inside.down (omega arith) c.t2-1.view_is in
     c.and_eq.ensures
     ∙ ap (λ b. b && pointwise beq c.t1-1.inside.down c.t2-1.inside.down)
-    (c.eq.ensures ∙ ap (λ xs. pointwise nat_eq xs c.t2-1.inside.loops) self_is.0 ∙ ap (λ xs. pointwise nat_eq (loops_of c.args.self.now) xs) other_is.0)
-    ∙ ap (λ xs. pointwise nat_eq (loops_of c.args.self.now) (loops_of c.args.other.now) && pointwise beq xs c.t2-1.inside.down) self_is.1
-    ∙ ap (λ xs. pointwise nat_eq (loops_of c.args.self.now) (loops_of c.args.other.now) && pointwise beq (downs_of c.args.self.now) xs) other_is.1
+    (c.eq.ensures ∙ ap (λ xs. pointwise nat_eq xs c.t2-1.inside.loops) self_is.0
+    ∙ ap (λ xs. pointwise nat_eq (loops_of c.args.self.now) xs) other_is.0)
+    ∙ ap (λ xs. pointwise nat_eq (loops_of c.args.self.now) (loops_of c.args.other.now) && pointwise beq xs c.t2-1.inside.down)
+    self_is.1
+    ∙ ap (λ xs. pointwise nat_eq (loops_of c.args.self.now) (loops_of c.args.other.now)
+    && pointwise beq (downs_of c.args.self.now) xs) other_is.1
