@@ -1,8 +1,6 @@
-pub mod Interfaces
 pub mod References
 pub mod Rules
 pub mod Listed
 pub mod Broken
 pub mod Laws
-pub mod View
 pub mod Walk

@@ -1,55 +1,16 @@
 -- One walk through a unit that keeps the first break: the way that the code goes. Each word here is one on the list of what is
 -- broken, taken part by part.
-use Rattle.std.specs.Prelude.{ℕ, Bool, true, false, ◌&&◌, if◌then◌else◌, Option, Some, None, List, [], ◌∷◌, ◌++◌}
+use Rattle.std.specs.Prelude.{ℕ, Bool, true, false, ◌&&◌, Option, Some, None, List, [], ◌∷◌, ◌++◌}
 use Rattle.std.specs.List.{fold}
-use Rattle.a95_base.specs.declared.breaks.Break.{Break}
-use Rattle.a95_base.specs.Breaks.{broken_at, comes_first}
-use Rattle.a95_base.specs.Rules.{wrong_arguments, wrong_out_argument, not_pure, not_elemental, not_recursive, lengths_differ}
-use Rattle.f95_unit.specs.Plain.{Expr, typed, Node, Literal, Constant, Index, Named, Brackets, Unary, Binary, Constructor}
-use Rattle.f95_unit.specs.Plain.{Elementwise, Trim, Asked, Reduced, Rearranged, Called, Designator, at, Access, Whole, Subscripted}
-use Rattle.f95_unit.specs.Plain.{Subscripts, no_subscript, subscript, Subscript, One, Vector, SubscriptTriplet, Bound, Absent}
-use Rattle.f95_unit.specs.Plain.{Given, Part, AllOf, BytesOf, Items, no_item, value, loop, Arguments, no_argument, argument}
-use Rattle.f95_unit.specs.Plain.{Subject, Name, Of, Call, call, Target, Assign, Where, masked, MaskedBody, no_masked, assigning}
-use Rattle.f95_unit.specs.Plain.{narrowed, Others, no_other, elsewhere, Triplet, Forall, Span, Allocation, Stmt, Assigns, Masks}
-use Rattle.f95_unit.specs.Plain.{ForAll, Calls, Allocate, Deallocate, Print, Read, If, Select, Do, While, Forever, Exit, Cycle}
-use Rattle.f95_unit.specs.Plain.{Return, Stop, Stmts, no_stmt, stmt, Branches, no_branch, branch, Cases, no_case, case, Entity}
-use Rattle.f95_unit.specs.Plain.{Procedure, Program}
-use Rattle.proc_check.specs.declared.interface.Interface.{Interface}
-use Rattle.proc_check.specs.declared.caller.Caller.{Caller}
-use Rattle.proc_check.specs.Interfaces.{interfaces_of}
-use Rattle.proc_check.specs.References.{Reference, References, Act, Transfers, reference}
-use Rattle.proc_check.specs.Rules.{is_mismatch, has_wrong_out, is_impure_function, changes_dummy, is_impure_call}
-use Rattle.proc_check.specs.Rules.{is_recursive_elemental, is_array, has_array_dummy, has_array_actual, is_itself}
-use Rattle.proc_check.specs.Rules.{is_unmarked_recursion, has_other_length, result_of, Home, homes, caller_of, callee}
-
--- ---- the first break so far
-
-abbrev pub Found : Type 0
-Found = Option Break
-
-abbrev pub earlier : Found → Break → Found
-earlier None b = Some b
-earlier (Some a) b = Some (if comes_first a b then a else b)
-
-abbrev pub noted : Found → Bool → ℕ → ℕ → Found
-noted found true line rule = earlier found (broken_at line rule)
-noted found false line rule = found
-
-abbrev pub told_reference : Caller → Option Interface → Found → Reference → Found
-told_reference c i found r =
-    noted (noted (noted (noted (noted (noted found (is_mismatch i r) r.line wrong_arguments)
-    (has_wrong_out c i r) r.line wrong_out_argument) (is_impure_call c i) r.line not_pure)
-    (has_array_actual i r) r.line not_elemental) (is_unmarked_recursion c r) r.line not_recursive)
-    (has_other_length i r) r.line lengths_differ
-
--- the same, where what is named is no procedure
-abbrev pub told_of_none : Caller → Found → ℕ → ℕ → Found
-told_of_none c found line number =
-    noted (noted found true line wrong_arguments) (is_itself c number) line not_recursive
-
-unfoldable pub told : Caller → Found → Act → Found
-told c found (References r) = told_reference c (callee c r) found r
-told c found (Transfers line) = noted found c.pure line not_pure
+use Rattle.a95_base.specs.Rules.{not_pure, not_elemental}
+use Rattle.f95_unit.specs.Plain.{Expr, typed, Node, Literal, Constant, Index, Named, Brackets, Unary, Binary, Constructor, Elementwise, Trim, Asked, Reduced, Rearranged, Called, Designator, at, Access, Whole, Subscripted, Subscripts, no_subscript, subscript, Subscript, One, Vector, SubscriptTriplet, Bound, Absent, Given, Part, AllOf, BytesOf, Items, no_item, value, loop, Arguments, no_argument, argument, Subject, Name, Of, Call, call, Target, Assign, Where, masked, MaskedBody, no_masked, assigning, narrowed, Others, no_other, elsewhere, Triplet, Forall, Span, Allocation, Stmt, Assigns, Masks, ForAll, Calls, Allocate, Deallocate, Print, Read, If, Select, Do, While, Forever, Exit, Cycle, Return, Stop, Stmts, no_stmt, stmt, Branches, no_branch, branch, Cases, no_case, case, Entity, Procedure, Program}
+use Rattle.proc_calls.specs.declared.interface.Interface.{Interface}
+use Rattle.proc_calls.specs.declared.caller.Caller.{Caller}
+use Rattle.proc_calls.specs.Interfaces.{interfaces_of}
+use Rattle.proc_calls.specs.Acts.{Transfers, reference}
+use Rattle.proc_calls.specs.Rules.{Home, caller_of}
+use Rattle.proc_calls.specs.Found.{Found, noted, told}
+use Rattle.proc_check.specs.Rules.{is_impure_function, changes_dummy, is_recursive_elemental, is_array, has_array_dummy, result_of, homes}
 
 -- ---- expressions
 

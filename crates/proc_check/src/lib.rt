@@ -1,13 +1,15 @@
-//! The calls of a typed unit, and what its procedures may be: phase 6 of the reader, rules 41 to 46. Definitions and laws on them;
-//! no code stands here yet. `specs/Interfaces` says what a reference sees of a procedure, `specs/References` which references a
-//! procedure makes, `specs/Rules` when each rule is broken, `specs/Broken` what a refusal says, and `specs/Listed` has all that a
-//! unit breaks as one list. `specs/Walk` is a walk that keeps the first break, which code will follow.
+//! The calls of a typed unit, and what its procedures may be: phase 6 of the reader, rules 41 to 46. `proc_calls` says what a
+//! reference sees of a procedure, and when one reference breaks a rule. `specs/References` says which references a procedure makes,
+//! `specs/Rules` when a unit breaks each rule, and `specs/Broken` what a refusal says. The code walks through the unit once and
+//! keeps the first break (`specs/Walk`), which is the first of the list of all (`specs/Listed`).
 #![tactic(auto)]
 
-mod caller;
-mod interface;
+mod assignments;
+mod check;
+mod expressions;
 mod laws;
+mod procedures;
+mod statements;
 
-pub use caller::Caller;
-pub use interface::{Dummy, Interface};
+pub use check::match_calls;
 pub use laws::{first_is_least, listed_are_broken, walk_keeps_first};

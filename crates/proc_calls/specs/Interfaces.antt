@@ -10,8 +10,8 @@ use Rattle.f95_unit.specs.declared.unit.Role.{Role}
 use Rattle.f95_unit.specs.declared.unit.Role.TheVariants as role
 use Rattle.f95_unit.specs.declared.unit.Intent.{Intent}
 use Rattle.f95_unit.specs.Plain.{Bounds, Scalars, Explicit, Assumed, Deferred, Entity, Procedure, Program}
-use Rattle.proc_check.specs.declared.interface.Dummy.{Dummy}
-use Rattle.proc_check.specs.declared.interface.Interface.{Interface}
+use Rattle.proc_calls.specs.declared.interface.Dummy.{Dummy}
+use Rattle.proc_calls.specs.declared.interface.Interface.{Interface}
 
 abbrev pub kind_of : DeclaredType → Kind
 kind_of declared_type.Integer = kind.Int

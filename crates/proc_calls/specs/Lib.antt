@@ -1,0 +1,5 @@
+pub mod Interfaces
+pub mod Acts
+pub mod Rules
+pub mod Found
+pub mod View

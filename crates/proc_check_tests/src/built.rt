@@ -1,0 +1,400 @@
+//! Typed units from short descriptions.
+
+use a95_base::{Kind, Line, PhaseError, Scalar};
+use f95_unit::{
+    Access, Argument, BinaryOp, Bound, Bounds, Branch, Call, DeclaredType, Designator, Elemental,
+    Entity, Expr, Facts, Node, Part, Procedure, Role, Span, Stmt, Subscript, Target, Unit,
+};
+use proc_check::match_calls;
+use sqlite_items::{Boxed, Items};
+use std::alloc::{AllocError, Global};
+use std::test::Fail;
+
+/// A value. Variables and procedures go by their numbers.
+pub enum Value {
+    /// The literal 1.
+    One,
+    /// `.TRUE.`
+    Truth,
+    /// An INTEGER variable of a rank.
+    Whole(u32, u8),
+    /// The first element of an INTEGER variable.
+    Element(u32),
+    /// All of a rank-one INTEGER variable, by a triplet.
+    Section(u32),
+    /// A rank-one INTEGER variable, subscripted by another one.
+    Gathered(u32, u32),
+    /// A CHARACTER variable, with its length where that is known.
+    Text(u32, Option<u32>),
+    /// The first byte of a CHARACTER variable.
+    Byte(u32),
+    /// `( e )`
+    Bracketed(&'static Value),
+    /// `e + f`
+    Sum(&'static Value, &'static Value),
+    /// ABS of a value.
+    Absolute(&'static Value),
+    /// A reference to a function, whose value is INTEGER and of a rank.
+    Reference(u32, u8, &'static [Actual]),
+}
+
+/// A value with its place among the dummies.
+pub struct Actual(pub u32, pub Value);
+
+/// A statement, with its line.
+pub enum Step {
+    Call(u32, u32, &'static [Actual]),
+    /// The first variable, which is an INTEGER scalar, is set.
+    Set(u32, Value),
+    Print(u32, &'static [Value]),
+    Read(u32),
+    Stop(u32),
+    Return(u32),
+    /// A DO with a variable.
+    Do(u32, u32, &'static [Step]),
+    If(u32, Value, &'static [Step]),
+}
+
+/// A declared variable, with its line, its type and its rank.
+pub struct Variable(pub u32, pub DeclaredType, pub u8, pub Role);
+
+pub enum Prefix {
+    None,
+    Recursive,
+    Pure,
+    Elemental,
+    RecursiveElemental,
+}
+
+/// A procedure: its line, its prefixes, its variables, the number of its result, its statements.
+pub struct Body(
+    pub u32,
+    pub Prefix,
+    pub &'static [Variable],
+    pub Option<u32>,
+    pub &'static [Step],
+);
+
+/// The statements of a main program.
+pub type Steps = &'static [Step];
+
+/// The procedures of a unit.
+pub type Bodies = &'static [Body];
+
+fn facts(alloc: Global, kind: Kind, length: Option<u32>, rank: u8) -> Result<Facts, AllocError> {
+    let mut extents = Items::new(alloc);
+    for _place in 0..rank {
+        extents.push(None)?;
+    }
+    Ok(Facts {
+        kind,
+        length,
+        extents,
+    })
+}
+
+fn with_node(facts: Facts, node: Node) -> Expr {
+    Expr { facts, node }
+}
+
+fn integer(alloc: Global, rank: u8, node: Node) -> Result<Expr, AllocError> {
+    Ok(with_node(facts(alloc, Kind::Int, None, rank)?, node))
+}
+
+fn named(variable: u32, access: Access, part: Part) -> Node {
+    Node::Designator(Designator {
+        variable,
+        access,
+        part,
+    })
+}
+
+fn one(alloc: Global) -> Result<Expr, AllocError> {
+    integer(alloc, 0, Node::Literal(Scalar::Int(1)))
+}
+
+fn at(alloc: Global, variable: u32, subscript: Subscript) -> Result<Node, AllocError> {
+    let mut subscripts = Items::new(alloc);
+    subscripts.push(subscript)?;
+    Ok(named(variable, Access::At(subscripts), Part::All))
+}
+
+fn text(alloc: Global, length: Option<u32>, node: Node) -> Result<Expr, AllocError> {
+    Ok(with_node(facts(alloc, Kind::Text, length, 0)?, node))
+}
+
+fn element(alloc: Global, variable: u32) -> Result<Expr, AllocError> {
+    let subscript = Subscript::One(Boxed::new(alloc, one(alloc)?)?);
+    integer(alloc, 0, at(alloc, variable, subscript)?)
+}
+
+fn section(alloc: Global, variable: u32) -> Result<Expr, AllocError> {
+    let subscript = Subscript::Triplet(Bound::Absent, Bound::Absent, Bound::Absent);
+    integer(alloc, 1, at(alloc, variable, subscript)?)
+}
+
+fn gathered(alloc: Global, variable: u32, vector: u32) -> Result<Expr, AllocError> {
+    let subscripts = integer(alloc, 1, named(vector, Access::Whole, Part::All))?;
+    let subscript = Subscript::Vector(Boxed::new(alloc, subscripts)?);
+    integer(alloc, 1, at(alloc, variable, subscript)?)
+}
+
+fn byte(alloc: Global, variable: u32) -> Result<Expr, AllocError> {
+    let first = Bound::Given(Boxed::new(alloc, one(alloc)?)?);
+    let last = Bound::Given(Boxed::new(alloc, one(alloc)?)?);
+    text(
+        alloc,
+        Some(1),
+        named(variable, Access::Whole, Part::Bytes(first, last)),
+    )
+}
+
+#[cycle(values)]
+fn value(alloc: Global, v: &Value) -> Result<Expr, AllocError> {
+    match v {
+        Value::One => one(alloc),
+        Value::Truth => Ok(with_node(
+            facts(alloc, Kind::Log, None, 0)?,
+            Node::Literal(Scalar::Log(true)),
+        )),
+        Value::Whole(n, rank) => integer(alloc, *rank, named(*n, Access::Whole, Part::All)),
+        Value::Element(n) => element(alloc, *n),
+        Value::Section(n) => section(alloc, *n),
+        Value::Gathered(n, vector) => gathered(alloc, *n, *vector),
+        Value::Text(n, length) => text(alloc, *length, named(*n, Access::Whole, Part::All)),
+        Value::Byte(n) => byte(alloc, *n),
+        Value::Bracketed(inner) => bracketed(alloc, inner),
+        Value::Sum(left, right) => sum(alloc, left, right),
+        Value::Absolute(inner) => absolute(alloc, inner),
+        Value::Reference(p, rank, actuals) => {
+            let call = call(alloc, *p, actuals)?;
+            integer(alloc, *rank, Node::Call(call))
+        }
+    }
+}
+
+#[cycle(values)]
+fn bracketed(alloc: Global, inner: &Value) -> Result<Expr, AllocError> {
+    let inner = Boxed::new(alloc, value(alloc, inner)?)?;
+    integer(alloc, 0, Node::Brackets(inner))
+}
+
+#[cycle(values)]
+fn sum(alloc: Global, left: &Value, right: &Value) -> Result<Expr, AllocError> {
+    let left = Boxed::new(alloc, value(alloc, left)?)?;
+    let right = Boxed::new(alloc, value(alloc, right)?)?;
+    integer(alloc, 0, Node::Binary(BinaryOp::Add, left, right))
+}
+
+#[cycle(values)]
+fn absolute(alloc: Global, inner: &Value) -> Result<Expr, AllocError> {
+    let mut arguments = Items::new(alloc);
+    arguments.push(Argument {
+        place: 0,
+        value: value(alloc, inner)?,
+    })?;
+    integer(alloc, 0, Node::Elemental(Elemental::Abs, arguments))
+}
+
+#[cycle(values)]
+fn call(alloc: Global, procedure: u32, actuals: &[Actual]) -> Result<Call, AllocError> {
+    let mut arguments = Items::new(alloc);
+    for a in actuals {
+        arguments.push(Argument {
+            place: a.0,
+            value: value(alloc, &a.1)?,
+        })?;
+    }
+    Ok(Call {
+        procedure,
+        arguments,
+    })
+}
+
+fn values(alloc: Global, vs: &[Value]) -> Result<Items<Expr>, AllocError> {
+    let mut items = Items::new(alloc);
+    for v in vs {
+        items.push(value(alloc, v)?)?;
+    }
+    Ok(items)
+}
+
+fn set(alloc: Global, line: u32, v: &Value) -> Result<Stmt, AllocError> {
+    let target = Target {
+        facts: facts(alloc, Kind::Int, None, 0)?,
+        designator: Designator {
+            variable: 0,
+            access: Access::Whole,
+            part: Part::All,
+        },
+    };
+    Ok(Stmt::Assign(f95_unit::Assign {
+        line: Line(line),
+        target,
+        value: value(alloc, v)?,
+    }))
+}
+
+#[cycle(steps)]
+fn step(alloc: Global, s: &Step) -> Result<Stmt, AllocError> {
+    match s {
+        Step::Call(line, p, actuals) => Ok(Stmt::Call(Line(*line), call(alloc, *p, actuals)?)),
+        Step::Set(line, v) => set(alloc, *line, v),
+        Step::Print(line, vs) => Ok(Stmt::Print(Line(*line), values(alloc, vs)?)),
+        Step::Read(line) => Ok(Stmt::Read(Line(*line), Items::new(alloc))),
+        Step::Stop(line) => Ok(Stmt::Stop(Line(*line))),
+        Step::Return(line) => Ok(Stmt::Return(Line(*line))),
+        Step::Do(line, variable, body) => turns(alloc, *line, *variable, body),
+        Step::If(line, v, body) => choice(alloc, *line, v, body),
+    }
+}
+
+#[cycle(steps)]
+fn turns(alloc: Global, line: u32, variable: u32, body: &[Step]) -> Result<Stmt, AllocError> {
+    let first = one(alloc)?;
+    let last = one(alloc)?;
+    let body = steps(alloc, body)?;
+    Ok(Stmt::Do(Line(line), variable, first, last, Bound::Absent, body))
+}
+
+#[cycle(steps)]
+fn choice(alloc: Global, line: u32, v: &Value, body: &[Step]) -> Result<Stmt, AllocError> {
+    let mut branches = Items::new(alloc);
+    branches.push(Branch {
+        line: Line(line),
+        condition: value(alloc, v)?,
+        body: steps(alloc, body)?,
+    })?;
+    Ok(Stmt::If(branches, Items::new(alloc)))
+}
+
+#[cycle(steps)]
+fn steps(alloc: Global, body: &[Step]) -> Result<Items<Stmt>, AllocError> {
+    let mut items = Items::new(alloc);
+    for s in body {
+        items.push(step(alloc, s)?)?;
+    }
+    Ok(items)
+}
+
+fn bounds(alloc: Global, rank: u8) -> Result<Bounds, AllocError> {
+    if rank == 0 {
+        return Ok(Bounds::None);
+    }
+    let mut spans = Items::new(alloc);
+    for _place in 0..rank {
+        spans.push(Span {
+            lower: Bound::Absent,
+            upper: one(alloc)?,
+        })?;
+    }
+    Ok(Bounds::Explicit(spans))
+}
+
+fn entities(alloc: Global, variables: &[Variable]) -> Result<Items<Entity>, AllocError> {
+    let mut items = Items::new(alloc);
+    for v in variables {
+        items.push(Entity {
+            line: Line(v.0),
+            of: v.1,
+            bounds: bounds(alloc, v.2)?,
+            role: v.3,
+            initial: None,
+        })?;
+    }
+    Ok(items)
+}
+
+fn procedure(alloc: Global, b: &Body) -> Result<Procedure, AllocError> {
+    let entities = entities(alloc, b.2)?;
+    let body = steps(alloc, b.4)?;
+    Ok(Procedure {
+        line: Line(b.0),
+        recursive: matches!(&b.1, Prefix::Recursive | Prefix::RecursiveElemental),
+        pure: matches!(&b.1, Prefix::Pure),
+        elemental: matches!(&b.1, Prefix::Elemental | Prefix::RecursiveElemental),
+        entities,
+        result: b.3,
+        body,
+    })
+}
+
+fn main_program(
+    alloc: Global,
+    variables: &[Variable],
+    main: &[Step],
+) -> Result<Procedure, AllocError> {
+    let entities = entities(alloc, variables)?;
+    let body = steps(alloc, main)?;
+    Ok(Procedure {
+        line: Line(1),
+        recursive: false,
+        pure: false,
+        elemental: false,
+        entities,
+        result: None,
+        body,
+    })
+}
+
+fn unit(
+    alloc: Global,
+    variables: &[Variable],
+    main: &[Step],
+    bodies: &[Body],
+) -> Result<Unit, AllocError> {
+    let main = main_program(alloc, variables, main)?;
+    let mut procedures = Items::new(alloc);
+    for b in bodies {
+        procedures.push(procedure(alloc, b)?)?;
+    }
+    Ok(Unit {
+        constants: Items::new(alloc),
+        main,
+        procedures,
+    })
+}
+
+/// The line and the rule of the refusal, or None.
+pub type Told = Option<(u32, u8)>;
+
+fn told(
+    alloc: Global,
+    variables: &[Variable],
+    main: &[Step],
+    bodies: &[Body],
+) -> Result<Told, Fail> {
+    let Ok(unit) = unit(alloc, variables, main, bodies) else {
+        return Err(Fail::new("out of memory"));
+    };
+    match match_calls(alloc, &unit) {
+        Ok(()) => Ok(None),
+        Err(PhaseError::Broken { line, rule }) => Ok(Some((line.0, rule.0))),
+        Err(PhaseError::Memory) => Err(Fail::new("out of memory")),
+    }
+}
+
+/// The first main program over these variables and procedures, by its place, that comes out wrong.
+pub fn first_wrong(
+    alloc: Global,
+    variables: &[Variable],
+    bodies: &[Body],
+    rows: &[(Steps, Told)],
+) -> Result<Option<usize>, Fail> {
+    for (place, row) in rows.iter().enumerate() {
+        if told(alloc, variables, row.0, bodies)? != row.1 {
+            return Ok(Some(place));
+        }
+    }
+    Ok(None)
+}
+
+/// The first procedures, by their place, that come out wrong beside a main program without statements.
+pub fn first_wrong_of(alloc: Global, rows: &[(Bodies, Told)]) -> Result<Option<usize>, Fail> {
+    for (place, row) in rows.iter().enumerate() {
+        if told(alloc, &[], &[], row.0)? != row.1 {
+            return Ok(Some(place));
+        }
+    }
+    Ok(None)
+}
