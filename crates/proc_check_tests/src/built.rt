@@ -2,8 +2,9 @@
 
 use a95_base::{Kind, Line, PhaseError, Scalar};
 use f95_unit::{
-    Access, Argument, BinaryOp, Bound, Bounds, Branch, Call, DeclaredType, Designator, Elemental,
-    Entity, Expr, Facts, Node, Part, Procedure, Role, Span, Stmt, Subscript, Target, Unit,
+    Access, Argument, Assign, BinaryOp, Bound, Bounds, Branch, Call, DeclaredType, Designator,
+    Elemental, Entity, Expr, Facts, Node, Part, Procedure, Role, Span, Stmt, Subscript, Target,
+    Unit,
 };
 use proc_check::match_calls;
 use sqlite_items::{Boxed, Items};
@@ -11,6 +12,7 @@ use std::alloc::{AllocError, Global};
 use std::test::Fail;
 
 /// A value. Variables and procedures go by their numbers.
+#[cycle(value)]
 pub enum Value {
     /// The literal 1.
     One,
@@ -39,6 +41,7 @@ pub enum Value {
 }
 
 /// A value with its place among the dummies.
+#[cycle(value)]
 pub struct Actual(pub u32, pub Value);
 
 /// A statement, with its line.
@@ -93,12 +96,18 @@ fn facts(alloc: Global, kind: Kind, length: Option<u32>, rank: u8) -> Result<Fac
     })
 }
 
-fn with_node(facts: Facts, node: Node) -> Expr {
-    Expr { facts, node }
+fn with_facts(facts: Result<Facts, AllocError>, node: Node) -> Result<Expr, AllocError> {
+    match facts {
+        Ok(facts) => Ok(Expr { facts, node }),
+        Err(error) => {
+            drop(node);
+            Err(error)
+        }
+    }
 }
 
 fn integer(alloc: Global, rank: u8, node: Node) -> Result<Expr, AllocError> {
-    Ok(with_node(facts(alloc, Kind::Int, None, rank)?, node))
+    with_facts(facts(alloc, Kind::Int, None, rank), node)
 }
 
 fn named(variable: u32, access: Access, part: Part) -> Node {
@@ -120,7 +129,7 @@ fn at(alloc: Global, variable: u32, subscript: Subscript) -> Result<Node, AllocE
 }
 
 fn text(alloc: Global, length: Option<u32>, node: Node) -> Result<Expr, AllocError> {
-    Ok(with_node(facts(alloc, Kind::Text, length, 0)?, node))
+    with_facts(facts(alloc, Kind::Text, length, 0), node)
 }
 
 fn element(alloc: Global, variable: u32) -> Result<Expr, AllocError> {
@@ -140,31 +149,32 @@ fn gathered(alloc: Global, variable: u32, vector: u32) -> Result<Expr, AllocErro
 }
 
 fn byte(alloc: Global, variable: u32) -> Result<Expr, AllocError> {
-    let first = Bound::Given(Boxed::new(alloc, one(alloc)?)?);
-    let last = Bound::Given(Boxed::new(alloc, one(alloc)?)?);
-    text(
-        alloc,
-        Some(1),
-        named(variable, Access::Whole, Part::Bytes(first, last)),
-    )
+    let first = Boxed::new(alloc, one(alloc)?)?;
+    let last = Boxed::new(alloc, one(alloc)?)?;
+    let part = Part::Bytes(Bound::Given(first), Bound::Given(last));
+    text(alloc, Some(1), named(variable, Access::Whole, part))
 }
 
 #[cycle(values)]
-fn value(alloc: Global, v: &Value) -> Result<Expr, AllocError> {
+fn expression(alloc: Global, v: &Value) -> Result<Expr, AllocError> {
     match v {
         Value::One => one(alloc),
-        Value::Truth => Ok(with_node(
-            facts(alloc, Kind::Log, None, 0)?,
+        Value::Truth => with_facts(
+            facts(alloc, Kind::Log, None, 0),
             Node::Literal(Scalar::Log(true)),
-        )),
+        ),
         Value::Whole(n, rank) => integer(alloc, *rank, named(*n, Access::Whole, Part::All)),
         Value::Element(n) => element(alloc, *n),
         Value::Section(n) => section(alloc, *n),
         Value::Gathered(n, vector) => gathered(alloc, *n, *vector),
         Value::Text(n, length) => text(alloc, *length, named(*n, Access::Whole, Part::All)),
         Value::Byte(n) => byte(alloc, *n),
-        Value::Bracketed(inner) => bracketed(alloc, inner),
-        Value::Sum(left, right) => sum(alloc, left, right),
+        Value::Bracketed(inner) => integer(alloc, 0, Node::Brackets(boxed(alloc, inner)?)),
+        Value::Sum(left, right) => {
+            let left = boxed(alloc, left)?;
+            let right = boxed(alloc, right)?;
+            integer(alloc, 0, Node::Binary(BinaryOp::Add, left, right))
+        }
         Value::Absolute(inner) => absolute(alloc, inner),
         Value::Reference(p, rank, actuals) => {
             let call = call(alloc, *p, actuals)?;
@@ -174,16 +184,8 @@ fn value(alloc: Global, v: &Value) -> Result<Expr, AllocError> {
 }
 
 #[cycle(values)]
-fn bracketed(alloc: Global, inner: &Value) -> Result<Expr, AllocError> {
-    let inner = Boxed::new(alloc, value(alloc, inner)?)?;
-    integer(alloc, 0, Node::Brackets(inner))
-}
-
-#[cycle(values)]
-fn sum(alloc: Global, left: &Value, right: &Value) -> Result<Expr, AllocError> {
-    let left = Boxed::new(alloc, value(alloc, left)?)?;
-    let right = Boxed::new(alloc, value(alloc, right)?)?;
-    integer(alloc, 0, Node::Binary(BinaryOp::Add, left, right))
+fn boxed(alloc: Global, inner: &Value) -> Result<Boxed<Expr>, AllocError> {
+    Ok(Boxed::new(alloc, expression(alloc, inner)?)?)
 }
 
 #[cycle(values)]
@@ -191,7 +193,7 @@ fn absolute(alloc: Global, inner: &Value) -> Result<Expr, AllocError> {
     let mut arguments = Items::new(alloc);
     arguments.push(Argument {
         place: 0,
-        value: value(alloc, inner)?,
+        value: expression(alloc, inner)?,
     })?;
     integer(alloc, 0, Node::Elemental(Elemental::Abs, arguments))
 }
@@ -202,7 +204,7 @@ fn call(alloc: Global, procedure: u32, actuals: &[Actual]) -> Result<Call, Alloc
     for a in actuals {
         arguments.push(Argument {
             place: a.0,
-            value: value(alloc, &a.1)?,
+            value: expression(alloc, &a.1)?,
         })?;
     }
     Ok(Call {
@@ -214,29 +216,46 @@ fn call(alloc: Global, procedure: u32, actuals: &[Actual]) -> Result<Call, Alloc
 fn values(alloc: Global, vs: &[Value]) -> Result<Items<Expr>, AllocError> {
     let mut items = Items::new(alloc);
     for v in vs {
-        items.push(value(alloc, v)?)?;
+        items.push(expression(alloc, v)?)?;
     }
     Ok(items)
 }
 
 fn set(alloc: Global, line: u32, v: &Value) -> Result<Stmt, AllocError> {
-    let target = Target {
-        facts: facts(alloc, Kind::Int, None, 0)?,
-        designator: Designator {
-            variable: 0,
-            access: Access::Whole,
-            part: Part::All,
-        },
-    };
-    Ok(Stmt::Assign(f95_unit::Assign {
+    let value = expression(alloc, v)?;
+    match facts(alloc, Kind::Int, None, 0) {
+        Ok(facts) => {
+            let designator = Designator {
+                variable: 0,
+                access: Access::Whole,
+                part: Part::All,
+            };
+            Ok(Stmt::Assign(Assign {
+                line: Line(line),
+                target: Target { facts, designator },
+                value,
+            }))
+        }
+        Err(error) => {
+            drop(value);
+            Err(error)
+        }
+    }
+}
+
+fn choice(alloc: Global, line: u32, v: &Value, body: Items<Stmt>) -> Result<Stmt, AllocError> {
+    let condition = expression(alloc, v)?;
+    let mut branches = Items::new(alloc);
+    branches.push(Branch {
         line: Line(line),
-        target,
-        value: value(alloc, v)?,
-    }))
+        condition,
+        body,
+    })?;
+    Ok(Stmt::If(branches, Items::new(alloc)))
 }
 
 #[cycle(steps)]
-fn step(alloc: Global, s: &Step) -> Result<Stmt, AllocError> {
+fn statement(alloc: Global, s: &Step) -> Result<Stmt, AllocError> {
     match s {
         Step::Call(line, p, actuals) => Ok(Stmt::Call(Line(*line), call(alloc, *p, actuals)?)),
         Step::Set(line, v) => set(alloc, *line, v),
@@ -245,34 +264,28 @@ fn step(alloc: Global, s: &Step) -> Result<Stmt, AllocError> {
         Step::Stop(line) => Ok(Stmt::Stop(Line(*line))),
         Step::Return(line) => Ok(Stmt::Return(Line(*line))),
         Step::Do(line, variable, body) => turns(alloc, *line, *variable, body),
-        Step::If(line, v, body) => choice(alloc, *line, v, body),
+        Step::If(line, v, body) => choice(alloc, *line, v, statements(alloc, body)?),
     }
 }
 
 #[cycle(steps)]
 fn turns(alloc: Global, line: u32, variable: u32, body: &[Step]) -> Result<Stmt, AllocError> {
+    let body = statements(alloc, body)?;
     let first = one(alloc)?;
-    let last = one(alloc)?;
-    let body = steps(alloc, body)?;
-    Ok(Stmt::Do(Line(line), variable, first, last, Bound::Absent, body))
+    match one(alloc) {
+        Ok(last) => Ok(Stmt::Do(Line(line), variable, first, last, Bound::Absent, body)),
+        Err(error) => {
+            drop(first);
+            Err(error)
+        }
+    }
 }
 
 #[cycle(steps)]
-fn choice(alloc: Global, line: u32, v: &Value, body: &[Step]) -> Result<Stmt, AllocError> {
-    let mut branches = Items::new(alloc);
-    branches.push(Branch {
-        line: Line(line),
-        condition: value(alloc, v)?,
-        body: steps(alloc, body)?,
-    })?;
-    Ok(Stmt::If(branches, Items::new(alloc)))
-}
-
-#[cycle(steps)]
-fn steps(alloc: Global, body: &[Step]) -> Result<Items<Stmt>, AllocError> {
+fn statements(alloc: Global, body: &[Step]) -> Result<Items<Stmt>, AllocError> {
     let mut items = Items::new(alloc);
     for s in body {
-        items.push(step(alloc, s)?)?;
+        items.push(statement(alloc, s)?)?;
     }
     Ok(items)
 }
@@ -283,9 +296,10 @@ fn bounds(alloc: Global, rank: u8) -> Result<Bounds, AllocError> {
     }
     let mut spans = Items::new(alloc);
     for _place in 0..rank {
+        let upper = one(alloc)?;
         spans.push(Span {
             lower: Bound::Absent,
-            upper: one(alloc)?,
+            upper,
         })?;
     }
     Ok(Bounds::Explicit(spans))
@@ -307,7 +321,7 @@ fn entities(alloc: Global, variables: &[Variable]) -> Result<Items<Entity>, Allo
 
 fn procedure(alloc: Global, b: &Body) -> Result<Procedure, AllocError> {
     let entities = entities(alloc, b.2)?;
-    let body = steps(alloc, b.4)?;
+    let body = statements(alloc, b.4)?;
     Ok(Procedure {
         line: Line(b.0),
         recursive: matches!(&b.1, Prefix::Recursive | Prefix::RecursiveElemental),
@@ -325,7 +339,7 @@ fn main_program(
     main: &[Step],
 ) -> Result<Procedure, AllocError> {
     let entities = entities(alloc, variables)?;
-    let body = steps(alloc, main)?;
+    let body = statements(alloc, main)?;
     Ok(Procedure {
         line: Line(1),
         recursive: false,
@@ -337,17 +351,17 @@ fn main_program(
     })
 }
 
-fn unit(
+fn unit_of(
     alloc: Global,
     variables: &[Variable],
     main: &[Step],
     bodies: &[Body],
 ) -> Result<Unit, AllocError> {
-    let main = main_program(alloc, variables, main)?;
     let mut procedures = Items::new(alloc);
     for b in bodies {
         procedures.push(procedure(alloc, b)?)?;
     }
+    let main = main_program(alloc, variables, main)?;
     Ok(Unit {
         constants: Items::new(alloc),
         main,
@@ -358,16 +372,18 @@ fn unit(
 /// The line and the rule of the refusal, or None.
 pub type Told = Option<(u32, u8)>;
 
-fn told(
+fn refusal_of(
     alloc: Global,
     variables: &[Variable],
     main: &[Step],
     bodies: &[Body],
 ) -> Result<Told, Fail> {
-    let Ok(unit) = unit(alloc, variables, main, bodies) else {
+    let Ok(unit) = unit_of(alloc, variables, main, bodies) else {
         return Err(Fail::new("out of memory"));
     };
-    match match_calls(alloc, &unit) {
+    let answer = match_calls(alloc, &unit);
+    drop(unit);
+    match answer {
         Ok(()) => Ok(None),
         Err(PhaseError::Broken { line, rule }) => Ok(Some((line.0, rule.0))),
         Err(PhaseError::Memory) => Err(Fail::new("out of memory")),
@@ -382,7 +398,7 @@ pub fn first_wrong(
     rows: &[(Steps, Told)],
 ) -> Result<Option<usize>, Fail> {
     for (place, row) in rows.iter().enumerate() {
-        if told(alloc, variables, row.0, bodies)? != row.1 {
+        if refusal_of(alloc, variables, row.0, bodies)? != row.1 {
             return Ok(Some(place));
         }
     }
@@ -392,7 +408,7 @@ pub fn first_wrong(
 /// The first procedures, by their place, that come out wrong beside a main program without statements.
 pub fn first_wrong_of(alloc: Global, rows: &[(Bodies, Told)]) -> Result<Option<usize>, Fail> {
     for (place, row) in rows.iter().enumerate() {
-        if told(alloc, &[], &[], row.0)? != row.1 {
+        if refusal_of(alloc, &[], &[], row.0)? != row.1 {
             return Ok(Some(place));
         }
     }
