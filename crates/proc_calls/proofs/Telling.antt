@@ -4,7 +4,8 @@ use Rattle.a95_base.specs.Rules.{wrong_arguments, wrong_out_argument, not_pure, 
 use Rattle.proc_calls.specs.declared.interface.Interface.{Interface}
 use Rattle.proc_calls.specs.declared.caller.Caller.{Caller}
 use Rattle.proc_calls.specs.Acts.{Reference, References}
-use Rattle.proc_calls.specs.Rules.{is_mismatch, has_wrong_out, is_impure_call, has_array_actual, is_unmarked_recursion, has_other_length, callee, procedure_number}
+use Rattle.proc_calls.specs.Rules.{is_mismatch, has_wrong_out, is_impure_call, has_array_actual, is_unmarked_recursion}
+use Rattle.proc_calls.specs.Rules.{has_other_length, callee, procedure_number}
 use Rattle.proc_calls.specs.Found.{Found, noted, told_reference, told_of_none, told}
 
 pub told_none : (c : Caller) (found : Found) (r : Reference) → callee c r ≡ None
@@ -22,7 +23,8 @@ noted_same line rule e f = cc
 
 -- rule by rule, each behind the one before
 pub told_in_turn : (c : Caller) (i : Interface) (r : Reference) (found : Found)
-    {first second third fourth fifth sixth : Found} {mismatch out impure array itself length : Bool} → mismatch ≡ is_mismatch (Some i) r → out ≡ has_wrong_out c (Some i) r
+    {first second third fourth fifth sixth : Found}
+    {mismatch out impure array itself length : Bool} → mismatch ≡ is_mismatch (Some i) r → out ≡ has_wrong_out c (Some i) r
     → impure ≡ is_impure_call c (Some i) → array ≡ has_array_actual (Some i) r → itself ≡ is_unmarked_recursion c r
     → length ≡ has_other_length (Some i) r → first ≡ noted found mismatch r.line wrong_arguments
     → second ≡ noted first out r.line wrong_out_argument → third ≡ noted second impure r.line not_pure

@@ -6,7 +6,8 @@ use Rattle.a95_base.specs.Rules.{wrong_arguments, wrong_out_argument, not_pure, 
 use Rattle.proc_calls.specs.declared.interface.Interface.{Interface}
 use Rattle.proc_calls.specs.declared.caller.Caller.{Caller}
 use Rattle.proc_calls.specs.Acts.{Reference, References, Act, Transfers}
-use Rattle.proc_calls.specs.Rules.{is_mismatch, has_wrong_out, is_impure_call, has_array_actual, is_itself, is_unmarked_recursion, has_other_length, callee}
+use Rattle.proc_calls.specs.Rules.{is_mismatch, has_wrong_out, is_impure_call, has_array_actual, is_itself, is_unmarked_recursion}
+use Rattle.proc_calls.specs.Rules.{has_other_length, callee}
 
 abbrev pub Found : Type 0
 Found = Option Break

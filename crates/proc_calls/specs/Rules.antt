@@ -1,6 +1,7 @@
 -- The rules on calls, as they stand on one reference: what the procedure is that references, what it references, and when the one
 -- reference breaks each of the rules.
-use Rattle.std.specs.Prelude.{ℕ, ◌+◌, max, ◌==◌, nat_lt, Bool, true, false, not, ◌&&◌, ◌||◌, List, [], ◌∷◌, map, length, Option, Some, None, replicate, slice_get, slice_set, slice_index_or}
+use Rattle.std.specs.Prelude.{ℕ, ◌+◌, max, ◌==◌, nat_lt, Bool, true, false, not, ◌&&◌, ◌||◌, List, map, length, Option, Some, None}
+use Rattle.std.specs.Prelude.{replicate, slice_get, slice_set, slice_index_or}
 use Rattle.std.specs.List.{list_any}
 use Rattle.a95_base.specs.declared.scalar.Kind.{Kind}
 use Rattle.a95_base.specs.declared.scalar.Kind.TheVariants as kind
@@ -9,7 +10,9 @@ use Rattle.f95_unit.specs.declared.unit.Role.{Role}
 use Rattle.f95_unit.specs.declared.unit.Role.TheVariants as role
 use Rattle.f95_unit.specs.declared.unit.Intent.{Intent}
 use Rattle.f95_unit.specs.declared.unit.Intent.TheVariants as intent
-use Rattle.f95_unit.specs.Plain.{Expr, typed, Named, Designator, at, Access, Whole, Subscripted, Subscripts, no_subscript, subscript, One, Vector, SubscriptTriplet, Part, AllOf, BytesOf, Arguments, no_argument, argument, Call, call, Entity, Procedure}
+use Rattle.f95_unit.specs.Plain.{Expr, typed, Named, Designator, at, Access, Whole, Subscripted, Subscripts, no_subscript}
+use Rattle.f95_unit.specs.Plain.{subscript, One, Vector, SubscriptTriplet, Part, AllOf, BytesOf, Arguments, no_argument, argument}
+use Rattle.f95_unit.specs.Plain.{Call, call, Entity, Procedure}
 use Rattle.proc_calls.specs.declared.interface.Dummy.{Dummy}
 use Rattle.proc_calls.specs.declared.interface.Interface.{Interface}
 use Rattle.proc_calls.specs.declared.caller.Caller.{Caller}

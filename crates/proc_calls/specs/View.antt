@@ -24,38 +24,38 @@ use Rattle.f95_unit.specs.declared.stmt.Case.{Case}
 use Rattle.f95_unit.specs.declared.stmt.Stmt.TheFolds.{fold-Branch, fold-Case}
 
 abbrev pub access_of : Access → plain.Access
-access_of = fold-Access plain.Access plain.Bound AddItem plain.Node plain.Part plain.Subject AddSubscript AddArgument plain.Call
-    plain.Designator plain.Expr
+access_of = fold-Access plain.Access plain.Bound AddItem plain.Node plain.Part plain.Subject
+    AddSubscript AddArgument plain.Call plain.Designator plain.Expr
     access_at bound_at item_at node_at part_at subject_at subscript_at argument_at call_at designator_at expr_at
 
 abbrev pub item_of : Item → AddItem
-item_of = fold-Item plain.Access plain.Bound AddItem plain.Node plain.Part plain.Subject AddSubscript AddArgument plain.Call
-    plain.Designator plain.Expr
+item_of = fold-Item plain.Access plain.Bound AddItem plain.Node plain.Part plain.Subject
+    AddSubscript AddArgument plain.Call plain.Designator plain.Expr
     access_at bound_at item_at node_at part_at subject_at subscript_at argument_at call_at designator_at expr_at
 
 abbrev pub node_of : Node → plain.Node
-node_of = fold-Node plain.Access plain.Bound AddItem plain.Node plain.Part plain.Subject AddSubscript AddArgument plain.Call
-    plain.Designator plain.Expr
+node_of = fold-Node plain.Access plain.Bound AddItem plain.Node plain.Part plain.Subject
+    AddSubscript AddArgument plain.Call plain.Designator plain.Expr
     access_at bound_at item_at node_at part_at subject_at subscript_at argument_at call_at designator_at expr_at
 
 abbrev pub part_of : Part → plain.Part
-part_of = fold-Part plain.Access plain.Bound AddItem plain.Node plain.Part plain.Subject AddSubscript AddArgument plain.Call
-    plain.Designator plain.Expr
+part_of = fold-Part plain.Access plain.Bound AddItem plain.Node plain.Part plain.Subject
+    AddSubscript AddArgument plain.Call plain.Designator plain.Expr
     access_at bound_at item_at node_at part_at subject_at subscript_at argument_at call_at designator_at expr_at
 
 abbrev pub subject_of : Subject → plain.Subject
-subject_of = fold-Subject plain.Access plain.Bound AddItem plain.Node plain.Part plain.Subject AddSubscript AddArgument plain.Call
-    plain.Designator plain.Expr
+subject_of = fold-Subject plain.Access plain.Bound AddItem plain.Node plain.Part plain.Subject
+    AddSubscript AddArgument plain.Call plain.Designator plain.Expr
     access_at bound_at item_at node_at part_at subject_at subscript_at argument_at call_at designator_at expr_at
 
 abbrev pub subscript_of : Subscript → AddSubscript
-subscript_of = fold-Subscript plain.Access plain.Bound AddItem plain.Node plain.Part plain.Subject AddSubscript AddArgument
-    plain.Call plain.Designator plain.Expr
+subscript_of = fold-Subscript plain.Access plain.Bound AddItem plain.Node plain.Part plain.Subject
+    AddSubscript AddArgument plain.Call plain.Designator plain.Expr
     access_at bound_at item_at node_at part_at subject_at subscript_at argument_at call_at designator_at expr_at
 
 abbrev pub argument_of : Argument → AddArgument
-argument_of = fold-Argument plain.Access plain.Bound AddItem plain.Node plain.Part plain.Subject AddSubscript AddArgument plain.Call
-    plain.Designator plain.Expr
+argument_of = fold-Argument plain.Access plain.Bound AddItem plain.Node plain.Part plain.Subject
+    AddSubscript AddArgument plain.Call plain.Designator plain.Expr
     access_at bound_at item_at node_at part_at subject_at subscript_at argument_at call_at designator_at expr_at
 
 abbrev pub items_of : List Item → plain.Items

@@ -1,5 +1,5 @@
 //! A procedure as the one that references others.
-ghost use Rattle.std.specs.Prelude.{◌≡◌, ◌++◌, IfOk, OnOk, map};
+ghost use Rattle.std.specs.Prelude.{◌≡◌, IfOk, OnOk, map};
 ghost use Rattle.f95_unit.specs.View.{entity_of, procedure_of};
 ghost use Rattle.proc_calls.specs.Rules as spec;
 

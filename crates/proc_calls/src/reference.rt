@@ -48,7 +48,8 @@ fn of_procedure(
     es: &[Argument],
     found: Option<Break>,
 ) -> Result<Option<Break>, AllocError>
-    ensures { IfOk result (λ r. r ≡ told_reference c.now (Some i.now) found (acts.reference_to line dos.now as_function (call number (arguments_of es.now)))) }
+    ensures { IfOk result (λ r. r ≡ told_reference c.now (Some i.now) found
+        (acts.reference_to line dos.now as_function (call number (arguments_of es.now)))) }
 {
     let is_mismatch = is_mismatch(alloc, i, as_function, es)?;
     let found = noted(found, is_mismatch, line, Rule::WRONG_ARGUMENTS);
@@ -74,7 +75,8 @@ fn at_number(
     es: &[Argument],
     found: Option<Break>,
 ) -> Result<Option<Break>, AllocError>
-    ensures { IfOk result (λ r. r ≡ told c.now found (acts.reference line dos.now as_function (call number (arguments_of es.now)))) }
+    ensures { IfOk result (λ r. r ≡ told c.now found
+        (acts.reference line dos.now as_function (call number (arguments_of es.now)))) }
 {
     match c.interfaces.get(number) {
         None => Ok(of_no_procedure(c, line, number, found)),

@@ -11,9 +11,17 @@ use Rattle.f95_unit.specs.Plain.{Entity, Program}
 use Rattle.proc_calls.specs.declared.caller.Caller.{Caller}
 use Rattle.proc_calls.specs.Interfaces.{is_pure}
 use Rattle.proc_calls.specs.Acts.{Reference, References, Act, Transfers}
-use Rattle.proc_calls.specs.Rules.{is_mismatch, has_wrong_out, is_impure_call, has_array_actual, is_unmarked_recursion, has_other_length, Home, callee}
-use Rattle.proc_check.specs.Rules.{is_impure_function, changes_dummy, is_recursive_elemental, is_array, has_array_dummy, result_of, homes, caller_in, acts, Breaks, has_wrong_arguments, changes_no_variable, function_is_not_pure, function_changes_dummy, transfers_in_pure, references_impure, elemental_is_recursive, elemental_has_array_dummy, elemental_has_array_result, elemental_takes_array, references_itself, has_other_lengths}
-use Rattle.proc_check.specs.Listed.{broken_if, argument_breaks, out_breaks, purity_breaks, actual_breaks, recursion_breaks, length_breaks, breaks_from_42, breaks_from_43, breaks_from_44, breaks_from_45, reference_breaks, act_breaks, heading_breaks, entity_breaks, declaration_breaks, array_breaks, result_breaks, statement_breaks, breaks_behind_declarations, breaks_behind_heading, home_breaks, breaks_of}
+use Rattle.proc_calls.specs.Rules.{is_mismatch, has_wrong_out, is_impure_call, has_array_actual, is_unmarked_recursion}
+use Rattle.proc_calls.specs.Rules.{has_other_length, Home, callee}
+use Rattle.proc_check.specs.Rules.{is_impure_function, changes_dummy, is_recursive_elemental, is_array, has_array_dummy, result_of}
+use Rattle.proc_check.specs.Rules.{homes, caller_in, acts, Breaks, has_wrong_arguments, changes_no_variable, function_is_not_pure}
+use Rattle.proc_check.specs.Rules.{function_changes_dummy, transfers_in_pure, references_impure, elemental_is_recursive}
+use Rattle.proc_check.specs.Rules.{elemental_has_array_dummy, elemental_has_array_result, elemental_takes_array, references_itself}
+use Rattle.proc_check.specs.Rules.{has_other_lengths}
+use Rattle.proc_check.specs.Listed.{broken_if, argument_breaks, out_breaks, purity_breaks, actual_breaks, recursion_breaks}
+use Rattle.proc_check.specs.Listed.{length_breaks, breaks_from_42, breaks_from_43, breaks_from_44, breaks_from_45, reference_breaks}
+use Rattle.proc_check.specs.Listed.{act_breaks, heading_breaks, entity_breaks, declaration_breaks, array_breaks, result_breaks}
+use Rattle.proc_check.specs.Listed.{statement_breaks, breaks_behind_declarations, breaks_behind_heading, home_breaks, breaks_of}
 use Rattle.proc_check.specs.Laws.{ListedAreBroken, FirstIsLeast, NoneIsUnbroken}
 
 -- ---- members of lists that are joined

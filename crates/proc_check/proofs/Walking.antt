@@ -6,17 +6,38 @@ use Rattle.std.proofs.lemmas.List.Folds.{fold-map}
 use Rattle.a95_base.specs.declared.breaks.Break.{Break}
 use Rattle.a95_base.specs.Breaks.{comes_first, first_from, first_of}
 use Rattle.a95_base.specs.Rules.{wrong_arguments, wrong_out_argument, not_pure, not_elemental, not_recursive, lengths_differ}
-use Rattle.f95_unit.specs.Plain.{Expr, typed, Node, Literal, Constant, Index, Named, Brackets, Unary, Binary, Constructor, Elementwise, Trim, Asked, Reduced, Rearranged, Called, Designator, at, Access, Whole, Subscripted, Subscripts, no_subscript, subscript, Subscript, One, Vector, SubscriptTriplet, Bound, Absent, Given, Part, AllOf, BytesOf, Items, no_item, value, loop, Arguments, no_argument, argument, Subject, Name, Of, Call, call, Target, Assign, Where, masked, MaskedBody, no_masked, assigning, narrowed, Others, no_other, elsewhere, Triplet, Forall, Span, Allocation, Stmt, Assigns, Masks, ForAll, Calls, Allocate, Deallocate, Print, Read, If, Select, Do, While, Forever, Exit, Cycle, Return, Stop, Stmts, no_stmt, stmt, Branches, no_branch, branch, Cases, no_case, case, Entity, Procedure, Program}
+use Rattle.f95_unit.specs.Plain.{Expr, typed, Node, Literal, Constant, Index, Named, Brackets, Unary, Binary, Constructor}
+use Rattle.f95_unit.specs.Plain.{Elementwise, Trim, Asked, Reduced, Rearranged, Called, Designator, at, Access, Whole, Subscripted}
+use Rattle.f95_unit.specs.Plain.{Subscripts, no_subscript, subscript, Subscript, One, Vector, SubscriptTriplet, Bound, Absent}
+use Rattle.f95_unit.specs.Plain.{Given, Part, AllOf, BytesOf, Items, no_item, value, loop, Arguments, no_argument, argument}
+use Rattle.f95_unit.specs.Plain.{Subject, Name, Of, Call, call, Target, Assign, Where, masked, MaskedBody, no_masked, assigning}
+use Rattle.f95_unit.specs.Plain.{narrowed, Others, no_other, elsewhere, Triplet, Forall, Span, Allocation, Stmt, Assigns, Masks}
+use Rattle.f95_unit.specs.Plain.{ForAll, Calls, Allocate, Deallocate, Print, Read, If, Select, Do, While, Forever, Exit, Cycle}
+use Rattle.f95_unit.specs.Plain.{Return, Stop, Stmts, no_stmt, stmt, Branches, no_branch, branch, Cases, no_case, case, Entity}
+use Rattle.f95_unit.specs.Plain.{Procedure, Program}
 use Rattle.proc_calls.specs.declared.caller.Caller.{Caller}
 use Rattle.proc_calls.specs.Interfaces.{interfaces_of}
 use Rattle.proc_calls.specs.Acts.{Reference, References, Act, Transfers, reference}
-use Rattle.proc_check.specs.References.{calls_in, node_calls, designator_calls, access_calls, subscript_calls, one_subscript_calls, bound_calls, part_calls, item_calls, argument_calls, subject_calls, call_calls, on_line, option_calls, assign_acts, where_acts, masked_acts, other_acts, triplet_calls, forall_acts, span_calls, allocation_calls, target_calls, stmt_acts, stmts_acts, branch_acts, case_acts}
-use Rattle.proc_calls.specs.Rules.{is_mismatch, has_wrong_out, is_impure_call, has_array_actual, is_unmarked_recursion, has_other_length, Home, callee}
-use Rattle.proc_check.specs.Rules.{is_impure_function, changes_dummy, is_recursive_elemental, is_array, has_array_dummy, result_of, homes, caller_in, acts}
-use Rattle.proc_check.specs.Listed.{broken_if, argument_breaks, out_breaks, purity_breaks, actual_breaks, breaks_from_42, breaks_from_43, breaks_from_44, breaks_from_45, reference_breaks, act_breaks, heading_breaks, entity_breaks, declaration_breaks, array_breaks, result_breaks, statement_breaks, breaks_behind_declarations, breaks_behind_heading, home_breaks, breaks_of}
+use Rattle.proc_check.specs.References.{calls_in, node_calls, designator_calls, access_calls, subscript_calls, one_subscript_calls}
+use Rattle.proc_check.specs.References.{bound_calls, part_calls, item_calls, argument_calls, subject_calls, call_calls, on_line}
+use Rattle.proc_check.specs.References.{option_calls, assign_acts, where_acts, masked_acts, other_acts, triplet_calls, forall_acts}
+use Rattle.proc_check.specs.References.{span_calls, allocation_calls, target_calls, stmt_acts, stmts_acts, branch_acts, case_acts}
+use Rattle.proc_calls.specs.Rules.{is_mismatch, has_wrong_out, is_impure_call, has_array_actual, is_unmarked_recursion}
+use Rattle.proc_calls.specs.Rules.{has_other_length, Home, callee}
+use Rattle.proc_check.specs.Rules.{is_impure_function, changes_dummy, is_recursive_elemental, is_array, has_array_dummy, result_of}
+use Rattle.proc_check.specs.Rules.{homes, caller_in, acts}
+use Rattle.proc_check.specs.Listed.{broken_if, argument_breaks, out_breaks, purity_breaks, actual_breaks, breaks_from_42}
+use Rattle.proc_check.specs.Listed.{breaks_from_43, breaks_from_44, breaks_from_45, reference_breaks, act_breaks, heading_breaks}
+use Rattle.proc_check.specs.Listed.{entity_breaks, declaration_breaks, array_breaks, result_breaks, statement_breaks}
+use Rattle.proc_check.specs.Listed.{breaks_behind_declarations, breaks_behind_heading, home_breaks, breaks_of}
 use Rattle.proc_check.specs.Laws.{WalkKeepsFirst}
 use Rattle.proc_calls.specs.Found.{Found, earlier, noted, told_reference, told}
-use Rattle.proc_check.specs.Walk.{Telling, telling, through_expr, through_node, through_designator, through_access, through_subscripts, through_subscript, through_bound, through_part, through_items, through_arguments, through_subject, through_call, through_option, through_triplet, through_span, through_allocation, through_target, through_assign, through_where, through_masked, through_others, through_forall, through_stmt, through_stmts, through_branches, through_cases, through_heading, through_entity, through_result, through_home}
+use Rattle.proc_check.specs.Walk.{Telling, telling, through_expr, through_node, through_designator, through_access}
+use Rattle.proc_check.specs.Walk.{through_subscripts, through_subscript, through_bound, through_part, through_items}
+use Rattle.proc_check.specs.Walk.{through_arguments, through_subject, through_call, through_option, through_triplet, through_span}
+use Rattle.proc_check.specs.Walk.{through_allocation, through_target, through_assign, through_where, through_masked, through_others}
+use Rattle.proc_check.specs.Walk.{through_forall, through_stmt, through_stmts, through_branches, through_cases, through_heading}
+use Rattle.proc_check.specs.Walk.{through_entity, through_result, through_home}
 
 -- ---- one list behind another
 

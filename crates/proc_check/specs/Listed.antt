@@ -8,8 +8,10 @@ use Rattle.a95_base.specs.Rules.{wrong_arguments, wrong_out_argument, not_pure, 
 use Rattle.f95_unit.specs.Plain.{Entity, Procedure, Program}
 use Rattle.proc_calls.specs.declared.caller.Caller.{Caller}
 use Rattle.proc_calls.specs.Acts.{Reference, References, Act, Transfers}
-use Rattle.proc_calls.specs.Rules.{is_mismatch, has_wrong_out, is_impure_call, has_array_actual, is_unmarked_recursion, has_other_length, Home, callee}
-use Rattle.proc_check.specs.Rules.{is_impure_function, changes_dummy, is_recursive_elemental, is_array, has_array_dummy, result_of, homes, caller_in, acts}
+use Rattle.proc_calls.specs.Rules.{is_mismatch, has_wrong_out, is_impure_call, has_array_actual, is_unmarked_recursion}
+use Rattle.proc_calls.specs.Rules.{has_other_length, Home, callee}
+use Rattle.proc_check.specs.Rules.{is_impure_function, changes_dummy, is_recursive_elemental, is_array, has_array_dummy, result_of}
+use Rattle.proc_check.specs.Rules.{homes, caller_in, acts}
 
 -- where a test holds, the rule is broken on the line
 abbrev pub broken_if : Bool → ℕ → ℕ → List Break

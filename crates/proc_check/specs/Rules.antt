@@ -1,6 +1,7 @@
 -- The rules on what procedures may be, and all rules on calls and procedures: when a reference, a statement, a declaration or a
 -- prefix of a unit breaks each of them.
-use Rattle.std.specs.Prelude.{ℕ, ◌+◌, nat_lt, Bool, true, false, not, ◌&&◌, is_some, List, [], ◌∷◌, Option, Some, None, slice_get, ◌≡◌}
+use Rattle.std.specs.Prelude.{ℕ, ◌+◌, nat_lt, Bool, true, false, not, ◌&&◌, is_some, List, [], ◌∷◌, Option, Some, None, slice_get}
+use Rattle.std.specs.Prelude.{◌≡◌}
 use Rattle.a95_base.specs.Lists.{Member}
 use Rattle.a95_base.specs.Rules.{wrong_arguments, wrong_out_argument, not_pure, not_elemental, not_recursive, lengths_differ}
 use Rattle.f95_unit.specs.declared.unit.Role.{Role}
@@ -9,7 +10,8 @@ use Rattle.f95_unit.specs.Plain.{Entity, Procedure, Program}
 use Rattle.proc_calls.specs.declared.caller.Caller.{Caller}
 use Rattle.proc_calls.specs.Interfaces.{rank_of, is_dummy, is_pure, interfaces_of}
 use Rattle.proc_calls.specs.Acts.{Reference, References, Act, Transfers}
-use Rattle.proc_calls.specs.Rules.{is_mismatch, has_wrong_out, is_in, is_impure_call, has_array_actual, is_unmarked_recursion, has_other_length, Home, home, caller_of, callee}
+use Rattle.proc_calls.specs.Rules.{is_mismatch, has_wrong_out, is_in, is_impure_call, has_array_actual, is_unmarked_recursion}
+use Rattle.proc_calls.specs.Rules.{has_other_length, Home, home, caller_of, callee}
 use Rattle.proc_check.specs.References.{stmts_acts}
 
 -- ---- rule 43: a function is neither PURE nor ELEMENTAL, or has a dummy other than IN

@@ -68,7 +68,8 @@ fn in_masked(
     m: &Masked,
     found: Option<Break>,
 ) -> Result<Option<Break>, AllocError>
-    ensures { IfOk result (λ r. (more : MaskedBody) → through_masked c.now dos.now found (masked_of m.now more) ≡ through_masked c.now dos.now r more) }
+    ensures { IfOk result (λ r. (more : MaskedBody) → through_masked c.now dos.now found (masked_of m.now more)
+        ≡ through_masked c.now dos.now r more) }
 {
     match m {
         Masked::Assign(a) => Ok(in_assign(alloc, c, dos, a, found)?),

@@ -1,6 +1,5 @@
 //! The calls of a whole unit.
 ghost use Rattle.std.specs.Prelude.{◌≡◌, IfOk, IfErr, OnOk};
-ghost use Rattle.std.specs.List.{fold};
 ghost use Rattle.f95_unit.specs.View.{program_of};
 ghost use Rattle.proc_check.specs.Broken.{IsUnbroken, Refuses};
 ghost use Rattle.proc_check.specs.Walk.{through_unit};

@@ -3,8 +3,12 @@ ghost use Rattle.std.specs.Prelude.{◌≡◌, IfOk, map, option_map};
 ghost use Rattle.std.specs.List.{fold};
 ghost use Rattle.f95_unit.specs.View.{expr_of, bound_of, call_of, designator_of, target_of, triplet_of, span_of, allocation_of};
 ghost use Rattle.f95_unit.specs.Plain.{Subscripts, Items};
-ghost use Rattle.proc_calls.specs.View.{access_of, part_of, subject_of, subscript_of, subscripts_of, item_of, items_of, arguments_of};
-ghost use Rattle.proc_check.specs.Walk.{telling, through_expr, through_designator, through_access, through_part, through_subscripts, through_bound, through_items, through_arguments, through_subject, through_call, through_option, through_triplet, through_span, through_allocation, through_target};
+ghost use Rattle.proc_calls.specs.View.{access_of, part_of, subject_of, subscript_of, subscripts_of, item_of, items_of};
+ghost use Rattle.proc_calls.specs.View.{arguments_of};
+ghost use Rattle.proc_check.specs.Walk.{telling, through_expr, through_designator, through_access, through_part};
+ghost use Rattle.proc_check.specs.Walk.{through_subscripts, through_bound, through_items, through_arguments, through_subject};
+ghost use Rattle.proc_check.specs.Walk.{through_call, through_option, through_triplet, through_span, through_allocation};
+ghost use Rattle.proc_check.specs.Walk.{through_target};
 
 use a95_base::Break;
 use f95_unit::{
@@ -105,7 +109,9 @@ fn in_subscript(
     s: &Subscript,
     found: Option<Break>,
 ) -> Result<Option<Break>, AllocError>
-    ensures { IfOk result (λ r. (more : Subscripts) → through_subscripts (telling c.now line dos.now) found (subscript_of s.now more) ≡ through_subscripts (telling c.now line dos.now) r more) }
+    ensures { IfOk result (λ r. (more : Subscripts) →
+        through_subscripts (telling c.now line dos.now) found (subscript_of s.now more)
+        ≡ through_subscripts (telling c.now line dos.now) r more) }
 {
     match s {
         Subscript::One(e) => Ok(in_expr(alloc, c, line, dos, e.get(), found)?),
@@ -183,7 +189,8 @@ fn in_item(
     item: &Item,
     found: Option<Break>,
 ) -> Result<Option<Break>, AllocError>
-    ensures { IfOk result (λ r. (more : Items) → through_items (telling c.now line dos.now) found (item_of item.now more) ≡ through_items (telling c.now line dos.now) r more) }
+    ensures { IfOk result (λ r. (more : Items) → through_items (telling c.now line dos.now) found (item_of item.now more)
+        ≡ through_items (telling c.now line dos.now) r more) }
 {
     match item {
         Item::Value(e) => Ok(in_expr(alloc, c, line, dos, e.get(), found)?),

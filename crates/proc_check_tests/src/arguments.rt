@@ -19,8 +19,8 @@ const OWN: &[Variable] = &[
 
 const I: Value = Value::Whole(0, 0);
 
-/// Procedures 0 to 7: of two IN scalars; of an OUT scalar; of an INOUT array; of two CHARACTERs; a pure function of an IN scalar; an
-/// ELEMENTAL function of two scalars; an ELEMENTAL subroutine of a scalar; of an OUT CHARACTER.
+/// Procedures 0 to 7: of two IN scalars; of an OUT scalar; of an INOUT array; of two CHARACTERs; a pure function of an IN scalar;
+/// an ELEMENTAL function of two scalars; an ELEMENTAL subroutine of a scalar; of an OUT CHARACTER.
 const ALL: &[Body] = &[
     Body(
         20,

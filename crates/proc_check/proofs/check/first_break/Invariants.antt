@@ -7,5 +7,6 @@ use Rattle.proc_check.proofs.check.first_break.Given as goal
 
 abbrev pub invariant-loop-number : goal.invariant-loop-number
 invariant-loop-number l =
-    (fold (through_home l.c.interfaces) l.found (numbered l.number (map procedure_of (drop l.number l.unit.procedures))) ≡ through_unit (program_of l.unit))
+    (fold (through_home l.c.interfaces) l.found (numbered l.number (map procedure_of (drop l.number l.unit.procedures)))
+    ≡ through_unit (program_of l.unit))
     × (l.c.interfaces ≡ interfaces_of (program_of l.unit))

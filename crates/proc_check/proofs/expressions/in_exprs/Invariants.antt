@@ -5,4 +5,5 @@ use Rattle.proc_check.proofs.expressions.in_exprs.Given as goal
 
 abbrev pub invariant-loop-e : goal.invariant-loop-e
 invariant-loop-e l =
-    fold (through_expr (telling l.c l.line l.dos)) l.found (map expr_of (drop l.e-index l.es)) ≡ fold (through_expr (telling l.c l.line l.dos)) l.fn.found (map expr_of l.es)
+    fold (through_expr (telling l.c l.line l.dos)) l.found (map expr_of (drop l.e-index l.es))
+    ≡ fold (through_expr (telling l.c l.line l.dos)) l.fn.found (map expr_of l.es)

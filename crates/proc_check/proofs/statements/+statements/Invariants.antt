@@ -9,7 +9,8 @@ invariant-in_stmts-loop-s l =
 
 abbrev pub invariant-in_branches-loop-b : goal.invariant-in_branches-loop-b
 invariant-in_branches-loop-b l =
-    through_branches l.c l.dos l.found (branches_of (drop l.b-index l.branches)) ≡ through_branches l.c l.dos l.fn.found (branches_of l.branches)
+    through_branches l.c l.dos l.found (branches_of (drop l.b-index l.branches))
+    ≡ through_branches l.c l.dos l.fn.found (branches_of l.branches)
 
 abbrev pub invariant-in_cases-loop-k : goal.invariant-in_cases-loop-k
 invariant-in_cases-loop-k l =
