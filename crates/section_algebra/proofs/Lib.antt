@@ -1,0 +1,11 @@
+pub mod Places
+pub mod Readings
+pub mod Progressions
+pub mod Bounds
+pub mod Meetings
+pub mod Crossings
+pub mod Consecutive
+pub mod Contiguous
+pub mod Loops
+pub mod Sections
+pub mod Forms
