@@ -216,6 +216,11 @@ takes_end terms from atom is = record {
   takes = λ starts. absurd (let S : List Term → Type 0 = Starts atom in subst S (drop_all from terms (omega arith)) starts);
 }
 
+-- what was made stays below what is left
+pub still_below : (old new terms : List Term) (from next atom : ℕ) (factor part : ℤ) → Grows old atom factor new → Takes terms from atom next part → Every (λ t. IsBelow t.0.0 (drop from terms)) old → Every (λ t. IsBelow t.0.0 (drop next terms)) new
+still_below old new terms from next atom factor part grown taken below =
+    grown.below (drop next terms) (Every-weaker (λ t. IsBelow t.0.0 (drop from terms)) (λ t. IsBelow t.0.0 (drop next terms)) (λ t h. taken.falls t.0.0 h) old below) taken.left
+
 -- the first atom that is left is the least
 first_is_least : (terms : List Term) (from : ℕ) (d : Term) (atom : ℕ) → IsSum terms → from < length terms → atom ≤ (get_or terms from d).0.0 → IsLeast atom (drop from terms)
 first_is_least terms from d atom h below least =

@@ -1,12 +1,13 @@
 -- The places of a section: which they are, how many, in which order, and each once.
-use Rattle.std.proofs.Common.{◌≡◌, ◌≢◌, ℕ, ℤ, pos, zero, suc, ◌+◌, ◌*◌, ◌<◌, ◌+ℤ◌, ◌*ℤ◌, List, [], ◌∷◌, ◌++◌, length, get_or, take, map, refl, sym, ap, ◌∙◌, subst, inl, inr, arith, length-append}
+use Rattle.std.proofs.Common.{◌≡◌, ◌≢◌, ℕ, ℤ, pos, zero, suc, ◌+◌, ◌*◌, ◌<◌, ◌+ℤ◌, ◌*ℤ◌, List, [], ◌∷◌, ◌++◌, length, get_or, map, refl, sym, ap, ◌∙◌, subst, inl, inr, arith}
 use Rattle.std.specs.List.{flat_map}
-use Rattle.std.proofs.lemmas.List.{length-map, length-take-le, get_or-map}
-use Rattle.std.proofs.lemmas.List.Concat.{get_or-flat_map}
+use Rattle.std.proofs.Math.Nat.{mul_comm}
+use Rattle.std.proofs.lemmas.List.{length-map, get_or-map}
 use Rattle.a95_base.specs.Lists.{Every, Pairwise, Member, count_to}
 use Rattle.a95_base.proofs.Lists.{Every-all, Every-map, Pairwise-map, Pairwise-weaker, Pairwise-flat_map, Member-append_left, Member-append_right, Member-append_cases, Member-map, Member-from_map, length-count_to, get_or-count_to, count_to_rises}
 use Rattle.rank_shape.specs.Shape.{IsPlace, size_of, number_of}
 use Rattle.rank_shape.proofs.Numbers.{number_below}
+use Rattle.rank_shape.proofs.Walks.{length_pieces, get_or-pieces}
 use Rattle.section_algebra.specs.Section.{Progression, term_of, subscripts_of, counts_of, choices, places_of, place_named}
 
 -- ---- which places
@@ -50,14 +51,11 @@ among_choices (zs ∷ more) place h =
 
 -- ---- how many
 
-length_pieces : {A B : Type 0} (f : A → List B) (n : ℕ) (xs : List A) → ((x : A) → length (f x) ≡ n) → length (flat_map f xs) ≡ n * length xs
-length_pieces f n [] same = omega arith
-length_pieces f n (x ∷ xs) same = omega (arith, length-append (f x) (flat_map f xs), same x, length_pieces f n xs same)
-
 length-choices : (zss : List (List ℤ)) → length (choices zss) ≡ size_of (map length zss)
 length-choices [] = refl
 length-choices (zs ∷ more) =
-    length_pieces (λ p. map (λ y. y ∷ p) zs) (length zs) (choices more) (λ p. length-map zs (λ y. y ∷ p)) ∙ ap (λ n. length zs * n) (length-choices more)
+    length_pieces (λ p. map (λ y. y ∷ p) zs) (length zs) (λ p. length-map zs (λ y. y ∷ p)) (choices more)
+    ∙ ap (λ n. n * length zs) (length-choices more) ∙ mul_comm (size_of (map length more)) (length zs)
 
 pub length-subscripts_of : (p : Progression) → length (subscripts_of p) ≡ p.count
 length-subscripts_of p = length-map (count_to p.count) (term_of p) ∙ length-count_to p.count
@@ -72,12 +70,6 @@ length-places_of section = length-choices (map subscripts_of section) ∙ ap siz
 
 -- ---- in which order
 
-piece_at : {A B : Type 0} (f : A → List B) (n : ℕ) (xs : List A) (i j : ℕ) (e : A) (d : B) → ((x : A) → length (f x) ≡ n) → i < n → j < length xs → get_or (flat_map f xs) (i + n * j) d ≡ get_or (f (get_or xs j e)) i d
-piece_at f n xs i j e d same i_below j_below =
-    let before : length (flat_map f (take j xs)) ≡ n * j = length_pieces f n (take j xs) same ∙ ap (λ k. n * k) (length-take-le j xs (omega arith)) in
-    let at : i + n * j ≡ length (flat_map f (take j xs)) + i = omega (arith, before) in
-    ap (λ k. get_or (flat_map f xs) k d) at ∙ get_or-flat_map f xs j i e d j_below (omega (arith, same (get_or xs j e)))
-
 abbrev picked : List (List ℤ) → List ℕ → List ℤ
 picked (zs ∷ more) (k ∷ turns) = get_or zs k (pos 0) ∷ picked more turns
 picked zss turns = []
@@ -89,7 +81,8 @@ choice_at (zs ∷ more) [] d h = absurd h
 choice_at (zs ∷ more) (k ∷ turns) d h =
     let n : ℕ = number_of (map length more) turns in
     let below : n < length (choices more) = omega (arith, number_below (map length more) turns h.1, length-choices more) in
-    piece_at (λ p. map (λ y. y ∷ p) zs) (length zs) (choices more) k n [] d (λ p. length-map zs (λ y. y ∷ p)) h.0 below
+    ap (λ j. get_or (choices (zs ∷ more)) j d) (let at : k + length zs * n ≡ n * length zs + k = omega (arith, mul_comm (length zs) n) in at)
+    ∙ get_or-pieces (λ p. map (λ y. y ∷ p) zs) (length zs) (λ p. length-map zs (λ y. y ∷ p)) (choices more) n k [] d below h.0
     ∙ get_or-map (λ y. y ∷ get_or (choices more) n []) zs k (pos 0) d h.0
     ∙ ap (λ p. get_or zs k (pos 0) ∷ p) (choice_at more turns [] h.1)
 

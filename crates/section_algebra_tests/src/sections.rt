@@ -25,7 +25,11 @@ const COUNTS: [(Triplet, i64); 14] = [
 ];
 
 fn row(triplet: &Triplet) -> Option<Section<1>> {
-    Section::new([i64::from(triplet.0)], [i64::from(triplet.1)], [i64::from(triplet.2)])
+    Section::new(
+        [i64::from(triplet.0)],
+        [i64::from(triplet.1)],
+        [i64::from(triplet.2)],
+    )
 }
 
 fn has_count(case: &(Triplet, i64)) -> bool {
@@ -56,7 +60,11 @@ const MEETINGS: [(Triplet, Triplet, bool); 15] = [
     ((0, 60, 6), (3, 60, 10), false),
     ((0, 60, 6), (4, 60, 10), true),
     ((0, 20, 6), (4, 20, 10), false),
-    ((i32::MIN, i32::MAX, 65536), (i32::MAX, i32::MIN, -65535), true),
+    (
+        (i32::MIN, i32::MAX, 65536),
+        (i32::MAX, i32::MIN, -65535),
+        true,
+    ),
     ((i32::MIN, i32::MAX, 65536), (1, i32::MAX, 65536), false),
 ];
 
@@ -116,18 +124,52 @@ fn places_are_named(rt: HostRuntime) -> Result<(), Fail> {
     let section = Section::new([9, -2], [1, 4], [-3, 2]).ok_or("plane")?;
     assert_eq!(rt; (section.count(0), section.count(1)), (3, 4));
     assert_eq!(rt; section.place(&Place { at: [2, 3] }).at, [3, 4]);
-    let cube = Section::new([1, 5, 1, 3, 1, 1, 7], [2, 1, 2, 3, 2, 2, 1], [1, -4, 1, 1, 1, 1, -3]).ok_or("cube")?;
-    assert_eq!(rt; cube.place(&Place { at: [1, 1, 0, 0, 1, 0, 2] }).at, [2, 1, 1, 3, 2, 1, 1]);
+    let cube = Section::new(
+        [1, 5, 1, 3, 1, 1, 7],
+        [2, 1, 2, 3, 2, 2, 1],
+        [1, -4, 1, 1, 1, 1, -3],
+    )
+    .ok_or("cube")?;
+    assert_eq!(rt;
+        cube.place(&Place {
+            at: [1, 1, 0, 0, 1, 0, 2]
+        })
+        .at,
+        [2, 1, 1, 3, 2, 1, 1]
+    );
     assert!(rt; cube.within(&[1; 7], &[2, 5, 2, 3, 2, 2, 7]));
     assert!(rt; !cube.within(&[1; 7], &[2, 5, 2, 3, 2, 2, 6]));
     assert!(rt; cube.meets(&cube));
     Ok(())
 }
 
+/// Two triplets in an array of four rows and three columns, and whether the places are consecutive.
+const RUNS: [((Triplet, Triplet), bool); 12] = [
+    (((1, 4, 1), (1, 3, 1)), true),
+    (((1, 4, 1), (2, 3, 1)), true),
+    (((2, 3, 1), (2, 2, 1)), true),
+    (((2, 3, 1), (1, 2, 1)), false),
+    (((1, 4, 3), (2, 2, 1)), false),
+    (((4, 1, -1), (1, 1, 1)), false),
+    (((3, 3, -1), (2, 2, 5)), true),
+    (((1, 4, 1), (1, 3, 2)), false),
+    (((1, 4, 1), (3, 2, -1)), false),
+    (((1, 1, 1), (1, 3, 1)), false),
+    (((3, 2, 1), (1, 9, 1)), true),
+    (((4, 4, 1), (3, 3, 1)), true),
+];
+
+fn runs_as_told(case: &((Triplet, Triplet), bool)) -> bool {
+    match (plane(&case.0), Shape::new([4, 3])) {
+        (Some(section), Some(whole)) => {
+            section.within(&[1, 1], &[4, 3]) && section.is_contiguous(&whole) == case.1
+        }
+        _ => false,
+    }
+}
+
 #[test]
-fn contiguous_sections(rt: HostRuntime) -> Result<(), Fail> {
-    let whole = Shape::new([4, 3, 2]).ok_or("shape")?;
-    let all = Section::new([1, 1, 1], [4, 3, 2], [1, 1, 1]).ok_or("all")?;
-    assert!(rt; all.within(&[1; 3], &[4, 3, 2]));
+fn some_sections_are_contiguous(rt: HostRuntime) -> Result<(), Fail> {
+    assert!(rt; RUNS.iter().all(runs_as_told));
     Ok(())
 }

@@ -1,17 +1,9 @@
-use Rattle.std.proofs.Common.{ℕ, ℤ, ◌-ℤ◌, List, take, drop, sym, ◌∙◌, FitsSigned, w32, rules}
+use Rattle.std.proofs.Common.{◌-ℤ◌, take, sym, ◌∙◌, FitsSigned, w32, rules}
 use Rattle.std.proofs.lemmas.Int.{wrapping_sub_is}
-use Rattle.a95_base.specs.Lists.{Every}
-use Rattle.a95_base.proofs.Lists.{Every-weaker}
 use Rattle.a95_base.proofs.Wrapping.{wrapped_is}
-use Rattle.section_algebra.specs.Form.{Term, sum_in, IsBelow}
-use Rattle.section_algebra.specs.Merging.{Grows, Takes}
-use Rattle.section_algebra.proofs.Forms.{merge_value}
+use Rattle.section_algebra.specs.Form.{sum_in}
+use Rattle.section_algebra.proofs.Forms.{still_below, merge_value}
 use Rattle.section_algebra.proofs.linear_form.terms_apart.Goals as goal
-
--- what was made stays below what is left of a sum
-still_below : (old new terms : List Term) (from next atom : ℕ) (factor part : ℤ) → Grows old atom factor new → Takes terms from atom next part → Every (λ t. IsBelow t.0.0 (drop from terms)) old → Every (λ t. IsBelow t.0.0 (drop next terms)) new
-still_below old new terms from next atom factor part grown taken below =
-    grown.below (drop next terms) (Every-weaker (λ t. IsBelow t.0.0 (drop from terms)) (λ t. IsBelow t.0.0 (drop next terms)) (λ t h. taken.falls t.0.0 h) old below) taken.left
 
 pub loop-atom-preserved : goal.loop-atom-preserved
 loop-atom-preserved c =

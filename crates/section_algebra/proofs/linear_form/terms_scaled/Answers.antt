@@ -6,7 +6,7 @@ use Rattle.a95_base.proofs.Lists.{Every-weaker}
 use Rattle.a95_base.proofs.Wrapping.{wrapped_is}
 use Rattle.section_algebra.specs.Form.{Term, sum_in, IsBelow}
 use Rattle.section_algebra.specs.Merging.{Takes}
-use Rattle.section_algebra.proofs.Forms.{integer_fits, no_term, takes_one, factor_at, next_above, scale_value}
+use Rattle.section_algebra.proofs.Forms.{integer_fits, no_term, takes_one, factor_at, next_above, still_below, scale_value}
 use Rattle.section_algebra.proofs.linear_form.terms_scaled.Goals as goal
 
 pub put-requires-clause-lesser : goal.put-requires-clause-lesser
@@ -21,9 +21,7 @@ loop-term-preserved c =
     let grown = c.in_ok-put.ensures in
     record {
       sum = grown.sum;
-      below =
-          grown.below (drop (k + 1) c.args.a.now)
-          (Every-weaker (λ u. IsBelow u.0.0 (drop k c.args.a.now)) (λ u. IsBelow u.0.0 (drop (k + 1) c.args.a.now)) (λ u below. taken.falls u.0.0 below) c.loop-term.terms.items c.loop-term.invariant.below) taken.left;
+      below = still_below c.loop-term.terms.items _ c.args.a.now k _ _ _ _ grown taken c.loop-term.invariant.below;
       value = λ values.
           scale_value (sum_in values c.loop-term.terms.items) (sum_in values (take k c.args.a.now)) _ (to_z w32 (of_z w32 c.args.factor)) t.1 (values t.0.0) _ _ (c.loop-term.invariant.value values)
           (wrapping_mul_is w32 c.args.factor t.1 c.ranges.factor (integer_fits t.1 (factor_at c.args.a.now k no_term c.requires c.loop-term-test.true)) ∙ sym (wrapped_is (c.args.factor *ℤ t.1)) ∙ ap (λ z. wrapped (z *ℤ t.1)) (sym (to_z-of_z w32 c.args.factor c.ranges.factor)))
