@@ -1,17 +1,16 @@
 -- Which sections lie within bounds: those without places, and those whose subscripts do, dimension by dimension.
-use Rattle.std.proofs.Common.{◌≡◌, ◌≢◌, ℕ, ℤ, pos, zero, suc, ◌+◌, ◌-◌, ◌*◌, ◌<◌, ◌≤◌, ◌≤ℤ◌, List, [], ◌∷◌, length, map, get_or, drop, refl, sym, ap, ◌∙◌, subst, inl, inr, arith}
+use Rattle.std.proofs.Common.{◌≡◌, ◌≢◌, ℕ, ℤ, suc, ◌+◌, ◌-◌, ◌*◌, ◌<◌, ◌≤◌, List, [], ◌∷◌, length, map, get_or, drop, sym, ap, ◌∙◌, subst, inl, inr, arith}
 use Rattle.std.specs.Prelude.{◌↔◌}
-use Rattle.std.proofs.lemmas.Int.{ints}
 use Rattle.std.proofs.lemmas.Bool.{cases_lt}
 use Rattle.std.proofs.lemmas.Nat.{mul-le}
 use Rattle.std.proofs.lemmas.List.{drop_more, drop_all, nil_from_length}
-use Rattle.a95_base.specs.Lists.{Every, Member, count_to}
+use Rattle.a95_base.specs.Lists.{Every}
 use Rattle.a95_base.proofs.Lists.{each_has, each_from_has, each_at}
 use Rattle.rank_shape.specs.Shape.{size_of}
-use Rattle.section_algebra.specs.Section.{Progression, term_of, subscripts_of, counts_of, choices, places_of, IsWithin}
+use Rattle.section_algebra.specs.Section.{Progression, term_of, subscripts_of, counts_of, places_of, IsWithin}
 use Rattle.section_algebra.specs.Dimensions.{InBounds, SubscriptsWithin, EachWithin, AllSome}
 use Rattle.section_algebra.proofs.Places.{AreAmong, choices_have, among_choices, length-places_of}
-use Rattle.section_algebra.proofs.Progressions.{term_zero, term_between, bounds_between, term_is_member, Turn, turn_of}
+use Rattle.section_algebra.proofs.Progressions.{term_zero, term_between, bounds_between, term_is_member, turn_of}
 
 -- ---- one dimension: the first and the last subscript say it
 

@@ -1,15 +1,15 @@
 -- Which sections have places that are consecutive in their array: after a dimension that isn't covered whole, one subscript each.
 use Rattle.std.proofs.Common.{◌≡◌, ◌⊎◌, ℕ, ℤ, pos, zero, suc, ◌+◌, ◌-◌, ◌*◌, ◌<◌, ◌≤◌, ◌+ℤ◌, ◌-ℤ◌, ◌≤ℤ◌, Bool, true, false, ◌&&◌, nat_eq, List, [], ◌∷◌, ◌++◌, length, map, get_or, drop, replicate, refl, sym, ap, ◌∙◌, subst, inl, inr, arith}
-use Rattle.std.specs.Prelude.{◌↔◌, IsTrue, unsigned_abs}
+use Rattle.std.specs.Prelude.{◌↔◌, unsigned_abs}
 use Rattle.std.specs.List.{flat_map}
 use Rattle.std.proofs.lemmas.Int.{ints}
 use Rattle.std.proofs.lemmas.Nat.{mul-le}
-use Rattle.std.proofs.lemmas.Bool.{cases_lt, cases_Bool, eqb-true, eqb-false, false≢true}
+use Rattle.std.proofs.lemmas.Bool.{cases_lt, eqb-true, eqb-false, false≢true}
 use Rattle.std.proofs.lemmas.List.{length-map, length-replicate, get_or-map, map-append, drop_more, drop_all}
 use Rattle.a95_base.specs.Lists.{Every, count_to}
 use Rattle.a95_base.proofs.Lists.{Every-map, Every-weaker, each_at, length-count_to, get_or-count_to}
 use Rattle.rank_shape.specs.Shape.{size_of, number_of}
-use Rattle.section_algebra.specs.Section.{Progression, term_of, subscripts_of, counts_of, choices, places_of, from_one, numbers_in, IsConsecutive}
+use Rattle.section_algebra.specs.Section.{Progression, term_of, subscripts_of, counts_of, places_of, from_one, numbers_in, IsConsecutive}
 use Rattle.section_algebra.specs.Dimensions.{SubscriptsWithin, EachWithin, AllSome, GoesOn, RunsOn}
 use Rattle.section_algebra.proofs.Places.{length-places_of, length-subscripts_of}
 use Rattle.section_algebra.proofs.Progressions.{term_next}

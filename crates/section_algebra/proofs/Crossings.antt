@@ -1,6 +1,6 @@
 -- Ascending progressions of natural numbers: when two have a number in common, and how few turns of one have to be tried.
-use Rattle.std.proofs.Common.{◌≡◌, ◌≢◌, ℕ, ℤ, pos, zero, suc, ◌+◌, ◌-◌, ◌*◌, ◌/◌, ◌%◌, ◌^◌, min, ◌<◌, ◌≤◌, ◌+ℤ◌, ◌-ℤ◌, ◌*ℤ◌, ◌<ℤ◌, ◌≤ℤ◌, List, [], ◌∷◌, length, map, refl, sym, ap, ◌∙◌, subst, inl, inr, arith}
-use Rattle.std.specs.Prelude.{◌↔◌, negsuc, neg_ℤ, unsigned_abs}
+use Rattle.std.proofs.Common.{◌≡◌, ℕ, ℤ, pos, zero, suc, ◌+◌, ◌-◌, ◌*◌, ◌/◌, ◌%◌, ◌^◌, min, ◌<◌, ◌≤◌, ◌+ℤ◌, ◌-ℤ◌, ◌*ℤ◌, refl, sym, ap, ◌∙◌, subst, inl, inr, arith}
+use Rattle.std.specs.Prelude.{◌↔◌, neg_ℤ}
 use Rattle.std.proofs.lemmas.Int.{ints}
 use Rattle.std.proofs.Math.Nat.{mul_assoc, mul_comm}
 use lib.IntN.{*ℤ-zero}
@@ -10,7 +10,7 @@ use Rattle.a95_base.specs.IntegerLaws.{IsInteger}
 use Rattle.a95_base.specs.Lists.{Member}
 use Rattle.section_algebra.specs.Section.{Progression, term_of, subscripts_of, Share, IsProgression}
 use Rattle.section_algebra.specs.Ascent.{IsAscent, Crossing, IsOn, Ascends}
-use Rattle.section_algebra.proofs.Progressions.{times_up, times_down, term_is_member, Turn, turn_of}
+use Rattle.section_algebra.proofs.Progressions.{times_up, times_down, term_is_member, turn_of}
 
 -- ---- numbers alone
 

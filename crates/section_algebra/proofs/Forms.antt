@@ -1,18 +1,18 @@
 -- Laws of sums of atoms: their values and factors, sums that rise, and what a merge of two keeps.
-use Rattle.std.proofs.Common.{◌≡◌, ◌≢◌, ◌⊎◌, ℕ, ℤ, pos, zero, suc, ◌+◌, ◌-◌, ◌^◌, ◌<◌, ◌≤◌, ◌+ℤ◌, ◌-ℤ◌, ◌*ℤ◌, ◌<ℤ◌, ◌≤ℤ◌, Bool, true, false, nat_eq, List, [], ◌∷◌, ◌++◌, length, get_or, take, drop, refl, sym, ap, ◌∙◌, subst, inl, inr, arith, FitsSigned, w32, of_z, to_z}
-use Rattle.std.specs.Prelude.{negsuc, neg_ℤ, if◌then◌else◌}
+use Rattle.std.proofs.Common.{◌≡◌, ◌≢◌, ℕ, ℤ, pos, zero, suc, ◌+◌, ◌-◌, ◌<◌, ◌≤◌, ◌+ℤ◌, ◌-ℤ◌, ◌*ℤ◌, Bool, true, false, nat_eq, List, [], ◌∷◌, ◌++◌, length, get_or, take, drop, refl, sym, ap, ◌∙◌, subst, inl, inr, arith, FitsSigned, w32, of_z, to_z}
+use Rattle.std.specs.Prelude.{negsuc, if◌then◌else◌}
 use Rattle.std.proofs.lemmas.Int.{ints, to_z-of_z}
 use Rattle.std.proofs.lemmas.Bool.{cases_order, cases_eq, eq-eqb, ne_eqb}
-use Rattle.std.proofs.lemmas.List.{take_more, drop_more, take_all, drop_all}
+use Rattle.std.proofs.lemmas.List.{take_more, drop_more, drop_all}
 use lib.IntN.{one, zero-*ℤ, *ℤ_comm, *ℤ-one, *ℤ-zero}
 use Rattle.a95_base.specs.Integer.{wrapped, difference_of}
 use Rattle.a95_base.specs.IntegerLaws.{IsInteger}
-use Rattle.a95_base.specs.Lists.{Every, Pairwise}
+use Rattle.a95_base.specs.Lists.{Every}
 use Rattle.a95_base.proofs.Lists.{Every-append, Every-weaker, Pairwise-append, each_at}
-use Rattle.a95_base.proofs.Integers.{mul_add, mul_sub, mul_assoc, one_more}
-use Rattle.a95_base.proofs.Wrapping.{wrapped_fits, fits_wrapped, wrapped-wrapped, wrapped-add, wrapped-subtract, wrapped-multiply}
+use Rattle.a95_base.proofs.Integers.{mul_add, mul_sub, mul_assoc}
+use Rattle.a95_base.proofs.Wrapping.{wrapped_fits, fits_wrapped, wrapped-wrapped, wrapped-add, wrapped-multiply}
 use Rattle.section_algebra.specs.declared.atom.Atom.{Atom}
-use Rattle.section_algebra.specs.Form.{Term, Form, factor_of, factor_in, sum_in, value_of, IsBelow, IsSum, IsForm}
+use Rattle.section_algebra.specs.Form.{Term, Form, factor_of, factor_in, sum_in, IsBelow, IsSum, IsForm}
 use Rattle.section_algebra.specs.Merging.{Grows, IsLeast, Starts, IsLeastOf, Takes}
 
 pub integer_fits : (z : ℤ) → IsInteger z → FitsSigned w32 z

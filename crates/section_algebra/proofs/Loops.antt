@@ -1,5 +1,5 @@
 -- Loops over dimensions that stop at the first which fails: what is asked of the whole is asked of what is left.
-use Rattle.std.specs.Prelude.{◌≡◌, ◌↔◌, true, false, IsTrue, refl}
+use Rattle.std.specs.Prelude.{◌↔◌, true, false, IsTrue, refl}
 use Rattle.std.proofs.lemmas.Bool.{false≢true}
 
 pub goes_on : (A B C D : Type 0) → (A ↔ B) → (B ↔ (C × D)) → C → (A ↔ D)

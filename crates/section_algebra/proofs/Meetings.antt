@@ -1,9 +1,8 @@
 -- Which sections meet: those whose subscripts do in each dimension.
-use Rattle.std.proofs.Common.{◌≡◌, ℕ, ℤ, zero, suc, ◌+◌, ◌<◌, ◌≤◌, List, [], ◌∷◌, length, map, get_or, drop, refl, sym, ap, ◌∙◌, subst, inl, inr, arith}
+use Rattle.std.proofs.Common.{◌≡◌, ℕ, ℤ, ◌+◌, ◌<◌, ◌≤◌, List, [], ◌∷◌, length, map, get_or, drop, sym, subst}
 use Rattle.std.specs.Prelude.{◌↔◌}
 use Rattle.std.proofs.lemmas.List.{drop_more, drop_all}
-use Rattle.a95_base.specs.Lists.{Member}
-use Rattle.section_algebra.specs.Section.{Progression, subscripts_of, choices, places_of, Meet, Share}
+use Rattle.section_algebra.specs.Section.{Progression, subscripts_of, Meet, Share}
 use Rattle.section_algebra.specs.Dimensions.{EachShares}
 use Rattle.section_algebra.proofs.Places.{AreAmong, choices_have, among_choices}
 

@@ -1,10 +1,10 @@
 -- The places of a section: which they are, how many, in which order, and each once.
-use Rattle.std.proofs.Common.{◌≡◌, ◌≢◌, ℕ, ℤ, pos, zero, suc, ◌+◌, ◌*◌, ◌<◌, ◌+ℤ◌, ◌*ℤ◌, List, [], ◌∷◌, ◌++◌, length, get_or, map, refl, sym, ap, ◌∙◌, subst, inl, inr, arith}
+use Rattle.std.proofs.Common.{◌≡◌, ◌≢◌, ℕ, ℤ, pos, ◌+◌, ◌*◌, ◌<◌, List, [], ◌∷◌, length, get_or, map, refl, sym, ap, ◌∙◌, subst, inl, inr, arith}
 use Rattle.std.specs.List.{flat_map}
 use Rattle.std.proofs.Math.Nat.{mul_comm}
 use Rattle.std.proofs.lemmas.List.{length-map, get_or-map}
 use Rattle.a95_base.specs.Lists.{Every, Pairwise, Member, count_to}
-use Rattle.a95_base.proofs.Lists.{Every-all, Every-map, Pairwise-map, Pairwise-weaker, Pairwise-flat_map, Member-append_left, Member-append_right, Member-append_cases, Member-map, Member-from_map, length-count_to, get_or-count_to, count_to_rises}
+use Rattle.a95_base.proofs.Lists.{Every-all, Every-map, Pairwise-map, Pairwise-weaker, Pairwise-flat_map, Member-append_left, Member-append_right, Member-append_cases, Member-map, Member-from_map, length-count_to, get_or-count_to}
 use Rattle.rank_shape.specs.Shape.{IsPlace, size_of, number_of}
 use Rattle.rank_shape.proofs.Numbers.{number_below}
 use Rattle.rank_shape.proofs.Walks.{length_pieces, get_or-pieces}

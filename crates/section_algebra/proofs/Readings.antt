@@ -1,5 +1,5 @@
 -- INTEGERs as 64-bit numbers: what the code reads of one is the number itself, and so are what it computes of them.
-use Rattle.std.proofs.Common.{◌≡◌, ◌≢◌, ℕ, ℤ, pos, zero, suc, ◌+◌, ◌-◌, ◌/◌, ◌^◌, ◌<◌, ◌≤◌, ◌+ℤ◌, ◌-ℤ◌, ◌*ℤ◌, ◌≤ℤ◌, List, length, get_or, refl, sym, ap, ◌∙◌, subst, arith, FitsSigned, w64, of_z, to_z}
+use Rattle.std.proofs.Common.{◌≡◌, ◌≢◌, ℕ, ℤ, pos, zero, suc, ◌+◌, ◌-◌, ◌^◌, ◌<◌, ◌≤◌, ◌+ℤ◌, ◌-ℤ◌, ◌*ℤ◌, ◌≤ℤ◌, List, length, get_or, refl, sym, ap, ◌∙◌, subst, arith, FitsSigned, w64, of_z, to_z}
 use Rattle.std.specs.Prelude.{◌↔◌, negsuc, neg_ℤ, int_div, unsigned_abs, IsTrue}
 use Rattle.std.specs.Int.{int_max}
 use Rattle.std.proofs.Math.Nat.{div-le_self}

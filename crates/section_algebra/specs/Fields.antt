@@ -1,6 +1,6 @@
 -- What the private fields of a section keep, and that the value which contracts see gives them back.
 use Rattle.std.specs.Prelude.{◌≡◌, ℕ, ℤ, pos, List, [], ◌∷◌, length, map, refl}
-use Rattle.std.proofs.Common.{zero, suc, ap, ◌∙◌, sym, arith}
+use Rattle.std.proofs.Common.{zero, suc, ap, ◌∙◌, arith}
 use Rattle.rank_shape.specs.Shape.{AreNatural, naturals}
 use Rattle.rank_shape.specs.Fields.{natural_is}
 use Rattle.section_algebra.specs.Section.{Progression, IsSection}

@@ -1,6 +1,6 @@
 -- Linear forms: a constant and a sum of atoms, each with a factor. Numbers are exact here; what an operation gives is taken
 -- modulo 2^32, into the range of an INTEGER.
-use Rattle.std.specs.Prelude.{◌≡◌, ◌≢◌, ℕ, ℤ, pos, ◌<◌, ◌+ℤ◌, ◌-ℤ◌, ◌*ℤ◌, nat_eq, if◌then◌else◌, List, [], ◌∷◌, ◌++◌}
+use Rattle.std.specs.Prelude.{◌≢◌, ℕ, ℤ, pos, ◌<◌, ◌+ℤ◌, ◌*ℤ◌, nat_eq, if◌then◌else◌, List, [], ◌∷◌}
 use Rattle.a95_base.specs.IntegerLaws.{IsInteger}
 use Rattle.a95_base.specs.Lists.{Every, Pairwise}
 use Rattle.section_algebra.specs.declared.atom.Atom.{Atom}

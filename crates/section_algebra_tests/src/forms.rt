@@ -3,37 +3,64 @@ use section_algebra::{Atom, LinearForm};
 use std::alloc::Global;
 use std::test::Fail;
 
+/// What stands for a form where memory fails.
+const NONE: i32 = 99;
+
+fn atom(alloc: Global, number: u32) -> LinearForm {
+    match LinearForm::of_atom(alloc, Atom(number)) {
+        Ok(form) => form,
+        Err(_) => LinearForm::constant(alloc, NONE),
+    }
+}
+
+fn difference(alloc: Global, a: &LinearForm, b: &LinearForm) -> LinearForm {
+    match LinearForm::difference(alloc, a, b) {
+        Ok(form) => form,
+        Err(_) => LinearForm::constant(alloc, NONE),
+    }
+}
+
+fn scaled(alloc: Global, a: &LinearForm, factor: i32) -> LinearForm {
+    match LinearForm::scaled(alloc, a, factor) {
+        Ok(form) => form,
+        Err(_) => LinearForm::constant(alloc, NONE),
+    }
+}
+
 fn has(form: &LinearForm, constant: i32, terms: &[(Atom, i32)]) -> bool {
     form.constant_part() == constant && form.terms() == terms
 }
 
 #[test]
-fn forms_are_built(rt: HostRuntime) -> Result<(), Fail> {
+fn differences_are_taken(rt: HostRuntime) -> Result<(), Fail> {
     let alloc = rt.alloc();
     let three = LinearForm::constant(alloc, 3);
-    let i = LinearForm::of_atom(alloc, Atom(7)).ok().ok_or("i")?;
-    let j = LinearForm::of_atom(alloc, Atom(2)).ok().ok_or("j")?;
+    let i = atom(alloc, 7);
+    let apart = difference(alloc, &i, &atom(alloc, 2));
+    let less = difference(alloc, &apart, &three);
     assert!(rt; has(&three, 3, &[]));
     assert!(rt; has(&i, 0, &[(Atom(7), 1)]));
-    let apart = LinearForm::difference(alloc, &i, &j).ok().ok_or("apart")?;
     assert!(rt; has(&apart, 0, &[(Atom(2), -1), (Atom(7), 1)]));
-    let less = LinearForm::difference(alloc, &apart, &three)
-        .ok()
-        .ok_or("less")?;
     assert!(rt; has(&less, -3, &[(Atom(2), -1), (Atom(7), 1)]));
-    let none = LinearForm::difference(alloc, &less, &less)
-        .ok()
-        .ok_or("none")?;
-    assert!(rt; has(&none, 0, &[]));
-    let twice = LinearForm::scaled(alloc, &less, -2).ok().ok_or("twice")?;
-    assert!(rt; has(&twice, 6, &[(Atom(2), 2), (Atom(7), -2)]));
-    let half = LinearForm::scaled(alloc, &less, 1 << 31)
-        .ok()
-        .ok_or("half")?;
-    assert!(rt; has(&half, i32::MIN, &[(Atom(2), i32::MIN), (Atom(7), i32::MIN)]));
-    let gone = LinearForm::scaled(alloc, &twice, i32::MIN)
-        .ok()
-        .ok_or("gone")?;
-    assert!(rt; has(&gone, 0, &[]));
+    assert!(rt; has(&difference(alloc, &less, &i), -3, &[(Atom(2), -1)]));
+    assert!(rt; has(&difference(alloc, &less, &less), 0, &[]));
+    Ok(())
+}
+
+#[test]
+fn forms_are_scaled(rt: HostRuntime) -> Result<(), Fail> {
+    let alloc = rt.alloc();
+    let three = LinearForm::constant(alloc, 3);
+    let form = difference(alloc, &atom(alloc, 7), &three);
+    let twice = scaled(alloc, &form, -2);
+    assert!(rt; has(&twice, 6, &[(Atom(7), -2)]));
+    assert!(rt;
+        has(
+            &scaled(alloc, &form, i32::MIN),
+            i32::MIN,
+            &[(Atom(7), i32::MIN)]
+        )
+    );
+    assert!(rt; has(&scaled(alloc, &twice, i32::MIN), 0, &[]));
     Ok(())
 }

@@ -1,4 +1,4 @@
-use Rattle.std.proofs.Common.{◌≡◌, ℕ, ℤ, ◌+◌, ◌*ℤ◌, List, ◌<◌, get_or, take, drop, refl, sym, ap, ◌∙◌, subst, arith, w32, to_z, of_z}
+use Rattle.std.proofs.Common.{ℕ, ◌+◌, ◌*ℤ◌, ◌<◌, get_or, take, drop, refl, sym, ap, ◌∙◌, arith, w32, to_z, of_z}
 use Rattle.std.proofs.lemmas.Int.{to_z-of_z, wrapping_mul_is}
 use Rattle.std.proofs.lemmas.List.{take_all}
 use Rattle.a95_base.specs.Integer.{wrapped}

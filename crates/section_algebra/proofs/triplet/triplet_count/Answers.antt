@@ -1,7 +1,7 @@
-use Rattle.std.proofs.Common.{◌≡◌, ℤ, pos, ◌+ℤ◌, ◌-ℤ◌, subst, sym, ap, ◌∙◌, arith, FitsSigned, w64, of_z, rules}
+use Rattle.std.proofs.Common.{ℤ, pos, ◌+ℤ◌, ◌-ℤ◌, subst, sym, ap, ◌∙◌, FitsSigned, w64, rules}
 use Rattle.std.specs.Prelude.{int_div}
 use Rattle.std.specs.Int.{int_max}
-use Rattle.std.proofs.lemmas.Int.{ints, to_z-of_z}
+use Rattle.std.proofs.lemmas.Int.{to_z-of_z}
 use Rattle.section_algebra.proofs.Readings.{read, steps_read, quotient_read, quotient_wide, count_natural}
 use Rattle.section_algebra.proofs.triplet.triplet_count.Goals as goal
 

@@ -1,4 +1,4 @@
-use Rattle.std.proofs.Common.{◌≡◌, ℕ, ℤ, ◌-ℤ◌, ◌*ℤ◌, sym, ap, ◌∙◌, w32}
+use Rattle.std.proofs.Common.{◌≡◌, ℕ, ℤ, ◌-ℤ◌, sym, ap, ◌∙◌, w32}
 use Rattle.std.proofs.lemmas.Int.{wrapping_sub_is}
 use Rattle.a95_base.specs.Integer.{wrapped, difference_of}
 use Rattle.a95_base.proofs.Wrapping.{wrapped_is}

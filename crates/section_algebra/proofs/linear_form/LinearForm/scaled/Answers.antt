@@ -1,4 +1,4 @@
-use Rattle.std.proofs.Common.{◌≡◌, ℕ, ℤ, ◌-ℤ◌, ◌*ℤ◌, sym, ap, ◌∙◌, w32}
+use Rattle.std.proofs.Common.{◌≡◌, ℕ, ℤ, ◌*ℤ◌, sym, ap, ◌∙◌, w32}
 use Rattle.std.proofs.lemmas.Int.{to_z-of_z, wrapping_mul_is}
 use Rattle.a95_base.specs.Integer.{wrapped, product_of}
 use Rattle.a95_base.proofs.Wrapping.{wrapped_is}

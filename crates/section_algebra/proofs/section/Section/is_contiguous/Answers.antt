@@ -1,4 +1,4 @@
-use Rattle.std.proofs.Common.{pos, replicate, map, arith}
+use Rattle.std.proofs.Common.{pos, replicate, map}
 use Rattle.std.proofs.lemmas.Bool.{iff_false}
 use Rattle.section_algebra.proofs.Loops.{always, and_so}
 use Rattle.section_algebra.proofs.Bounds.{all_some, within_is}

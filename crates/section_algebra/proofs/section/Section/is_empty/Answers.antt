@@ -1,4 +1,4 @@
-use Rattle.std.proofs.Common.{◌≡◌, pos, get_or, sym, ◌∙◌, ap, of_z, w64, arith}
+use Rattle.std.proofs.Common.{◌≡◌, pos, get_or, ◌∙◌, ap, of_z, w64, arith}
 use Rattle.std.proofs.lemmas.Int.{ints}
 use Rattle.section_algebra.specs.Section.{counts_of}
 use Rattle.section_algebra.proofs.Loops.{never, always}

@@ -1,4 +1,4 @@
-use Rattle.std.proofs.Common.{◌≡◌, ◌≢◌, ℤ, pos, ◌+◌, List, ◌∷◌, ◌++◌, get_or, take, drop, set, subst, sym, ap, ◌∙◌, FitsSigned, w64, of_z, rules, arith}
+use Rattle.std.proofs.Common.{◌≡◌, ◌≢◌, ℤ, pos, ◌+◌, List, ◌++◌, get_or, take, drop, set, subst, sym, ap, ◌∙◌, FitsSigned, w64, of_z, rules, arith}
 use Rattle.std.proofs.lemmas.Int.{to_z-of_z}
 use Rattle.std.proofs.lemmas.List.{length-set, drop_more, drop_all}
 use Rattle.a95_base.specs.Lists.{Every}

@@ -1,8 +1,8 @@
 use Rattle.std.proofs.Common.{FitsSigned, w64, rules, arith}
 use Rattle.std.proofs.lemmas.Int.{to_z-of_z}
 use Rattle.std.proofs.lemmas.Bool.{iff_false}
-use Rattle.section_algebra.proofs.Loops.{goes_on, stops, never, always}
-use Rattle.section_algebra.proofs.Contiguous.{runs_next, runs_step, goes_moved, all_run}
+use Rattle.section_algebra.proofs.Loops.{goes_on, never, always}
+use Rattle.section_algebra.proofs.Contiguous.{runs_next, goes_moved, all_run}
 use Rattle.section_algebra.proofs.section.Section.runs_on.Goals as goal
 
 pub loop-dim-init : goal.loop-dim-init

@@ -1,8 +1,8 @@
-use Rattle.std.proofs.Common.{◌≡◌, ◌≢◌, ℕ, ℤ, pos, suc, ◌+◌, ◌-◌, ◌^◌, ◌≤◌, ◌<◌, ◌<ℤ◌, ◌≤ℤ◌, ◌+ℤ◌, sym, ap, ◌∙◌, subst, arith, FitsSigned, w64, rules}
+use Rattle.std.proofs.Common.{◌≡◌, ◌≢◌, ℕ, ℤ, pos, suc, ◌+◌, ◌-◌, ◌≤◌, ◌<◌, ◌<ℤ◌, ◌≤ℤ◌, ◌+ℤ◌, sym, ap, ◌∙◌, subst, arith, FitsSigned, w64, rules}
 use Rattle.std.specs.Prelude.{unsigned_abs}
 use Rattle.std.proofs.lemmas.Int.{ints}
 use Rattle.section_algebra.specs.Section.{Progression, IsProgression, term_of}
-use Rattle.section_algebra.specs.Ascent.{IsAscent, Ascends}
+use Rattle.section_algebra.specs.Ascent.{IsAscent}
 use Rattle.section_algebra.proofs.Readings.{read, read_back}
 use Rattle.section_algebra.proofs.Crossings.{ascends_up, ascends_down, ascent_is}
 use Rattle.section_algebra.proofs.triplet.Triplet.ascending.Goals as goal
