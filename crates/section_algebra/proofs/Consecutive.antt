@@ -32,7 +32,8 @@ abbrev last_of : ℕ → List ℕ → ℕ
 last_of x [] = x
 last_of x (y ∷ ys) = last_of y ys
 
-joined : (x : ℕ) (xs : List ℕ) (y : ℕ) (ys : List ℕ) → IsConsecutive (x ∷ xs) → y ≡ suc (last_of x xs) → IsConsecutive (y ∷ ys) → IsConsecutive ((x ∷ xs) ++ y ∷ ys)
+joined : (x : ℕ) (xs : List ℕ) (y : ℕ) (ys : List ℕ) → IsConsecutive (x ∷ xs) → y ≡ suc (last_of x xs) → IsConsecutive (y ∷ ys)
+    → IsConsecutive ((x ∷ xs) ++ y ∷ ys)
 joined x [] y ys h e k = (e, k)
 joined x (z ∷ xs) y ys h e k = (h.0, joined z xs y ys h.1 e k)
 
@@ -92,7 +93,8 @@ one_row_on e n m count some small is =
     elim (cases_lt n m) [
       | inl above ↦
           elim (cases_lt (suc n) m) [
-            | inl far ↦ absurd (let more : e * suc (suc n) ≤ e * m = mul-le e (suc (suc n)) e m (omega arith) (omega arith) in omega (arith, is, more))
+            | inl far ↦ absurd (let more : e * suc (suc n) ≤ e * m = mul-le e (suc (suc n)) e m (omega arith) (omega arith)
+                in omega (arith, is, more))
             | inr near ↦
                 let next : m ≡ suc n = omega arith in
                 (next, omega (arith, is, ap (λ x. e * x) next))
@@ -104,14 +106,17 @@ module _ (o : ℕ) (os : List ℕ) (e : ℕ) (inside : Every (λ z. z < e) (o �
   count_fits : IsConsecutive (o ∷ os) → suc (length os) ≤ e
   count_fits h = omega (arith, last_is o os h, last_below o os e inside)
 
-  rows_from : (n : ℕ) (ns : List ℕ) → IsConsecutive (rows e (o ∷ os) (n ∷ ns)) → IsConsecutive (o ∷ os) × RowsJoin (suc (length os)) e (n ∷ ns)
+  rows_from : (n : ℕ) (ns : List ℕ) → IsConsecutive (rows e (o ∷ os) (n ∷ ns))
+      → IsConsecutive (o ∷ os) × RowsJoin (suc (length os)) e (n ∷ ns)
   rows_from n [] h =
       let P : List ℕ → Type 0 = IsConsecutive in
       (moved_back (e * n) (o ∷ os) (subst P (append-nil (row e (o ∷ os) n)) h), inl (omega arith))
   rows_from n (m ∷ ns) h =
       let later : List ℕ = moved_up (e * m) os ++ rows e (o ∷ os) ns in
-      let here : IsConsecutive (o ∷ os) = moved_back (e * n) (o ∷ os) (first_part (o + e * n) (moved_up (e * n) os) (o + e * m) later h) in
-      let joint : o + e * m ≡ suc (last_of (o + e * n) (moved_up (e * n) os)) = at_the_joint (o + e * n) (moved_up (e * n) os) (o + e * m) later h in
+      let here : IsConsecutive (o ∷ os) =
+      moved_back (e * n) (o ∷ os) (first_part (o + e * n) (moved_up (e * n) os) (o + e * m) later h) in
+      let joint : o + e * m ≡ suc (last_of (o + e * n) (moved_up (e * n) os)) =
+      at_the_joint (o + e * n) (moved_up (e * n) os) (o + e * m) later h in
       let ahead : e * m ≡ e * n + suc (length os) = omega (arith, joint, last_moved (e * n) o os, last_is o os here) in
       let step = one_row_on e n m (suc (length os)) (omega arith) (count_fits here) ahead in
       let more = rows_from m ns (second_part (o + e * n) (moved_up (e * n) os) (o + e * m) later h) in (
@@ -128,15 +133,18 @@ module _ (o : ℕ) (os : List ℕ) (e : ℕ) (inside : Every (λ z. z < e) (o �
         ),
       )
 
-  rows_to : (n : ℕ) (ns : List ℕ) → IsConsecutive (o ∷ os) → RowsJoin (suc (length os)) e (n ∷ ns) → IsConsecutive (rows e (o ∷ os) (n ∷ ns))
-  rows_to n [] h j = let P : List ℕ → Type 0 = IsConsecutive in subst P (sym (append-nil (row e (o ∷ os) n))) (moved_on (e * n) (o ∷ os) h)
+  rows_to : (n : ℕ) (ns : List ℕ) → IsConsecutive (o ∷ os) → RowsJoin (suc (length os)) e (n ∷ ns)
+      → IsConsecutive (rows e (o ∷ os) (n ∷ ns))
+  rows_to n [] h j =
+      let P : List ℕ → Type 0 = IsConsecutive in subst P (sym (append-nil (row e (o ∷ os) n))) (moved_on (e * n) (o ∷ os) h)
   rows_to n (m ∷ ns) h (inl short) = absurd (omega arith)
   rows_to n (m ∷ ns) h (inr on) =
       joined (o + e * n) (moved_up (e * n) os) (o + e * m) (moved_up (e * m) os ++ rows e (o ∷ os) ns) (moved_on (e * n) (o ∷ os) h)
       (omega (arith, last_moved (e * n) o os, last_is o os h, on.0, ap (λ x. e * x) on.1.0))
       (rows_to m ns h (inr (on.0, on.1.1)))
 
-pub rows_are : (e : ℕ) (os ns : List ℕ) → 0 < length os → 0 < length ns → Every (λ z. z < e) os → IsConsecutive (rows e os ns) ↔ (IsConsecutive os × RowsJoin (length os) e ns)
+pub rows_are : (e : ℕ) (os ns : List ℕ) → 0 < length os → 0 < length ns → Every (λ z. z < e) os
+    → IsConsecutive (rows e os ns) ↔ (IsConsecutive os × RowsJoin (length os) e ns)
 rows_are e [] ns some more inside = absurd (omega arith)
 rows_are e (o ∷ os) [] some more inside = absurd (omega arith)
 rows_are e (o ∷ os) (n ∷ ns) some more inside = (rows_from o os e inside n ns, λ h. rows_to o os e inside n ns h.0 h.1)

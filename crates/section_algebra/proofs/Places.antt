@@ -12,13 +12,15 @@ use Rattle.section_algebra.specs.Section.{Progression, term_of, subscripts_of, c
 
 -- ---- which places
 
-Member-flat_map : {A B : Type 0} (f : A → List B) (xs : List A) (x : A) (y : B) → Member xs x → Member (f x) y → Member (flat_map f xs) y
+Member-flat_map : {A B : Type 0} (f : A → List B) (xs : List A) (x : A) (y : B) → Member xs x → Member (f x) y
+    → Member (flat_map f xs) y
 Member-flat_map f [] x y h k = absurd h
 Member-flat_map {A} f (w ∷ xs) x y (inl e) k =
     let P : A → Type 0 = λ v. Member (f v) y in Member-append_left (f w) (flat_map f xs) y (subst P (sym e) k)
 Member-flat_map f (w ∷ xs) x y (inr h) k = Member-append_right (f w) (flat_map f xs) y (Member-flat_map f xs x y h k)
 
-Member-from_flat_map : {A B : Type 0} (f : A → List B) (xs : List A) (y : B) → Member (flat_map f xs) y → (x : A) × (Member xs x × Member (f x) y)
+Member-from_flat_map : {A B : Type 0} (f : A → List B) (xs : List A) (y : B) → Member (flat_map f xs) y
+    → (x : A) × (Member xs x × Member (f x) y)
 Member-from_flat_map f [] y h = absurd h
 Member-from_flat_map f (w ∷ xs) y h =
     elim (Member-append_cases (f w) (flat_map f xs) y h) [
@@ -38,7 +40,8 @@ choices_have [] [] h = inl refl
 choices_have [] (z ∷ place) h = absurd h
 choices_have (zs ∷ more) [] h = absurd h
 choices_have (zs ∷ more) (z ∷ place) h =
-    Member-flat_map (λ p. map (λ y. y ∷ p) zs) (choices more) place (z ∷ place) (choices_have more place h.1) (Member-map (λ y. y ∷ place) zs z h.0)
+    Member-flat_map (λ p. map (λ y. y ∷ p) zs) (choices more) place (z ∷ place) (choices_have more place h.1)
+    (Member-map (λ y. y ∷ place) zs z h.0)
 
 pub among_choices : (zss : List (List ℤ)) (place : List ℤ) → Member (choices zss) place → AreAmong zss place
 among_choices [] place (inl e) = let P : List ℤ → Type 0 = λ p. AreAmong [] p in subst P e tt
@@ -63,7 +66,8 @@ length-subscripts_of p = length-map (count_to p.count) (term_of p) ∙ length-co
 pub lengths_are_counts : (section : List Progression) → map length (map subscripts_of section) ≡ counts_of section
 lengths_are_counts [] = refl
 lengths_are_counts (p ∷ section) =
-    ap (λ n. n ∷ map length (map subscripts_of section)) (length-subscripts_of p) ∙ ap (λ ns. p.count ∷ ns) (lengths_are_counts section)
+    ap (λ n. n ∷ map length (map subscripts_of section)) (length-subscripts_of p)
+    ∙ ap (λ ns. p.count ∷ ns) (lengths_are_counts section)
 
 pub length-places_of : (section : List Progression) → length (places_of section) ≡ size_of (counts_of section)
 length-places_of section = length-choices (map subscripts_of section) ∙ ap size_of (lengths_are_counts section)
@@ -74,30 +78,37 @@ abbrev picked : List (List ℤ) → List ℕ → List ℤ
 picked (zs ∷ more) (k ∷ turns) = get_or zs k (pos 0) ∷ picked more turns
 picked zss turns = []
 
-choice_at : (zss : List (List ℤ)) (turns : List ℕ) (d : List ℤ) → IsPlace (map length zss) turns → get_or (choices zss) (number_of (map length zss) turns) d ≡ picked zss turns
+choice_at : (zss : List (List ℤ)) (turns : List ℕ) (d : List ℤ) → IsPlace (map length zss) turns
+    → get_or (choices zss) (number_of (map length zss) turns) d ≡ picked zss turns
 choice_at [] [] d h = refl
 choice_at [] (k ∷ turns) d h = absurd h
 choice_at (zs ∷ more) [] d h = absurd h
 choice_at (zs ∷ more) (k ∷ turns) d h =
     let n : ℕ = number_of (map length more) turns in
     let below : n < length (choices more) = omega (arith, number_below (map length more) turns h.1, length-choices more) in
-    ap (λ j. get_or (choices (zs ∷ more)) j d) (let at : k + length zs * n ≡ n * length zs + k = omega (arith, mul_comm (length zs) n) in at)
+    ap (λ j. get_or (choices (zs ∷ more)) j d)
+    (let at : k + length zs * n ≡ n * length zs + k = omega (arith, mul_comm (length zs) n) in at)
     ∙ get_or-pieces (λ p. map (λ y. y ∷ p) zs) (length zs) (λ p. length-map zs (λ y. y ∷ p)) (choices more) n k [] d below h.0
     ∙ get_or-map (λ y. y ∷ get_or (choices more) n []) zs k (pos 0) d h.0
     ∙ ap (λ p. get_or zs k (pos 0) ∷ p) (choice_at more turns [] h.1)
 
-picked_is_named : (section : List Progression) (turns : List ℕ) → IsPlace (counts_of section) turns → picked (map subscripts_of section) turns ≡ place_named section turns
+picked_is_named : (section : List Progression) (turns : List ℕ) → IsPlace (counts_of section) turns
+    → picked (map subscripts_of section) turns ≡ place_named section turns
 picked_is_named [] [] h = refl
 picked_is_named [] (k ∷ turns) h = absurd h
 picked_is_named (p ∷ section) [] h = absurd h
 picked_is_named (p ∷ section) (k ∷ turns) h =
-    ap (λ z. z ∷ picked (map subscripts_of section) turns) (get_or-map (term_of p) (count_to p.count) k 0 (pos 0) (omega (arith, h.0, length-count_to p.count)) ∙ ap (term_of p) (get_or-count_to p.count k 0 h.0))
+    ap (λ z. z ∷ picked (map subscripts_of section) turns)
+    (get_or-map (term_of p) (count_to p.count) k 0 (pos 0) (omega (arith, h.0, length-count_to p.count))
+    ∙ ap (term_of p) (get_or-count_to p.count k 0 h.0))
     ∙ ap (λ zs. term_of p k ∷ zs) (picked_is_named section turns h.1)
 
 -- the place that is named at these turns stands where array element order of the turns puts it
-pub named_is_listed : (section : List Progression) (turns : List ℕ) (d : List ℤ) → IsPlace (counts_of section) turns → get_or (places_of section) (number_of (counts_of section) turns) d ≡ place_named section turns
+pub named_is_listed : (section : List Progression) (turns : List ℕ) (d : List ℤ) → IsPlace (counts_of section) turns
+    → get_or (places_of section) (number_of (counts_of section) turns) d ≡ place_named section turns
 named_is_listed section turns d h =
-    let P : List ℕ → Type 0 = λ ns. IsPlace ns turns → get_or (places_of section) (number_of ns turns) d ≡ picked (map subscripts_of section) turns in
+    let P : List ℕ → Type 0 =
+    λ ns. IsPlace ns turns → get_or (places_of section) (number_of ns turns) d ≡ picked (map subscripts_of section) turns in
     subst P (lengths_are_counts section) (choice_at (map subscripts_of section) turns d) h ∙ picked_is_named section turns h
 
 -- ---- each once
@@ -115,15 +126,19 @@ apart_before : (zs : List ℤ) (p q : List ℤ) → p ≢ q → Every (λ v. Eve
 apart_before zs p q apart =
     Every-map (λ v. Every (λ w. v ≢ w) (before zs q)) (λ x. x ∷ p) zs
     (Every-all (λ x. Every (λ w. (x ∷ p) ≢ w) (before zs q))
-    (λ x. Every-map (λ w. (x ∷ p) ≢ w) (λ y. y ∷ q) zs (Every-all (λ y. (x ∷ p) ≢ (y ∷ q)) (λ y. later_differs x y p q apart) zs)) zs)
+    (λ x. Every-map (λ w. (x ∷ p) ≢ w) (λ y. y ∷ q) zs
+    (Every-all (λ y. (x ∷ p) ≢ (y ∷ q)) (λ y. later_differs x y p q apart) zs)) zs)
 
 choices_once : (zss : List (List ℤ)) → Every (Pairwise (λ x y. x ≢ y)) zss → Pairwise (λ p q. p ≢ q) (choices zss)
 choices_once [] h = (tt, tt)
 choices_once (zs ∷ more) h =
     Pairwise-flat_map (λ p q. p ≢ q) (before zs) (choices more)
     (Every-all (λ p. Pairwise (λ v w. v ≢ w) (before zs p))
-    (λ p. Pairwise-map (λ v w. v ≢ w) (λ z. z ∷ p) zs (Pairwise-weaker (λ x y. x ≢ y) (λ x y. (x ∷ p) ≢ (y ∷ p)) (λ x y. first_differs x y p p) zs h.0)) (choices more))
-    (Pairwise-weaker (λ p q. p ≢ q) (λ p q. Every (λ v. Every (λ w. v ≢ w) (before zs q)) (before zs p)) (λ p q. apart_before zs p q) (choices more) (choices_once more h.1))
+    (λ p. Pairwise-map (λ v w. v ≢ w) (λ z. z ∷ p) zs
+    (Pairwise-weaker (λ x y. x ≢ y) (λ x y. (x ∷ p) ≢ (y ∷ p)) (λ x y. first_differs x y p p) zs h.0)) (choices more))
+    (Pairwise-weaker (λ p q. p ≢ q) (λ p q. Every (λ v. Every (λ w. v ≢ w) (before zs q)) (before zs p))
+    (λ p q. apart_before zs p q) (choices more) (choices_once more h.1))
 
-pub places_once : (section : List Progression) → Every (λ p. Pairwise (λ x y. x ≢ y) (subscripts_of p)) section → Pairwise (λ p q. p ≢ q) (places_of section)
+pub places_once : (section : List Progression) → Every (λ p. Pairwise (λ x y. x ≢ y) (subscripts_of p)) section
+    → Pairwise (λ p q. p ≢ q) (places_of section)
 places_once section h = choices_once (map subscripts_of section) (Every-map (Pairwise (λ x y. x ≢ y)) subscripts_of section h)

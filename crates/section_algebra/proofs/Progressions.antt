@@ -46,7 +46,8 @@ pub term_between : (p : Progression) (k n : ℕ) → k ≤ n → Between p.start
 term_between p k n h = between_by p.start p.stride k n h
 
 -- what holds of both ends holds between, where it is a range
-pub bounds_between : (l u first last z : ℤ) → Between first last z → (l ≤ℤ first) × (first ≤ℤ u) → (l ≤ℤ last) × (last ≤ℤ u) → (l ≤ℤ z) × (z ≤ℤ u)
+pub bounds_between : (l u first last z : ℤ) → Between first last z → (l ≤ℤ first) × (first ≤ℤ u) → (l ≤ℤ last) × (last ≤ℤ u)
+    → (l ≤ℤ z) × (z ≤ℤ u)
 unfolding Between
 bounds_between l u first last z (inl h) f g = (omega (arith, ints, h.0, h.1, f.0, g.1), omega (arith, ints, h.0, h.1, f.0, g.1))
 bounds_between l u first last z (inr h) f g = (omega (arith, ints, h.0, h.1, f.1, g.0), omega (arith, ints, h.0, h.1, f.1, g.0))
@@ -88,7 +89,8 @@ down_room (negsuc a) m k h =
     let count : k < suc a / suc m = omega (arith, ap unsigned_abs (max_natural (suc a / suc m))) in
     omega (arith, ints, below_quotient k (suc a) (suc m) count)
 
-triplet_between : (first last stride : ℤ) (k : ℕ) → stride ≢ pos 0 → k < triplet_count first last stride → Between first last (first +ℤ pos k *ℤ stride)
+triplet_between : (first last stride : ℤ) (k : ℕ) → stride ≢ pos 0 → k < triplet_count first last stride
+    → Between first last (first +ℤ pos k *ℤ stride)
 unfolding Between
 triplet_between first last (pos zero) k some h = absurd (some refl)
 triplet_between first last (pos (suc m)) k some h =
@@ -98,7 +100,8 @@ triplet_between first last (negsuc m) k some h =
     let room : (last -ℤ first +ℤ negsuc m) ≤ℤ neg_ℤ (pos (k * suc m + suc m)) = down_room (last -ℤ first +ℤ negsuc m) m k h in
     inr (omega (arith, ints, times_down k m, room), omega (arith, ints, times_down k m))
 
-pub triplet_is : (first last stride : ℤ) → IsInteger first → IsInteger last → IsInteger stride → stride ≢ pos 0 → IsProgression (triplet first last stride)
+pub triplet_is : (first last stride : ℤ) → IsInteger first → IsInteger last → IsInteger stride → stride ≢ pos 0
+    → IsProgression (triplet first last stride)
 triplet_is first last stride f l s some = record {
   start_fits = f;
   stride_fits = s;
@@ -106,19 +109,22 @@ triplet_is first last stride f l s some = record {
   terms_fit = λ k h. integer_between first last (first +ℤ pos k *ℤ stride) (triplet_between first last stride k some h) f l;
 }
 
-pub triplets_are : (lower upper stride : List ℤ) → AreIntegers lower → AreIntegers upper → AreIntegers stride → Every (λ s. s ≢ pos 0) stride → Every IsProgression (triplets lower upper stride)
+pub triplets_are : (lower upper stride : List ℤ) → AreIntegers lower → AreIntegers upper → AreIntegers stride
+    → Every (λ s. s ≢ pos 0) stride → Every IsProgression (triplets lower upper stride)
 triplets_are [] upper stride f l s some = tt
 triplets_are (x ∷ lower) [] stride f l s some = tt
 triplets_are (x ∷ lower) (y ∷ upper) [] f l s some = tt
 triplets_are (x ∷ lower) (y ∷ upper) (z ∷ stride) f l s some =
     (triplet_is x y z f.0 l.0 s.0 some.0, triplets_are lower upper stride f.1 l.1 s.1 some.1)
 
-pub length-triplets : (n : ℕ) (lower upper stride : List ℤ) → length lower ≡ n → length upper ≡ n → length stride ≡ n → length (triplets lower upper stride) ≡ n
+pub length-triplets : (n : ℕ) (lower upper stride : List ℤ) → length lower ≡ n → length upper ≡ n → length stride ≡ n
+    → length (triplets lower upper stride) ≡ n
 length-triplets n [] upper stride f l s = f
 length-triplets n (x ∷ lower) [] stride f l s = absurd (omega (arith, f, l))
 length-triplets n (x ∷ lower) (y ∷ upper) [] f l s = absurd (omega (arith, f, s))
 length-triplets zero (x ∷ lower) (y ∷ upper) (z ∷ stride) f l s = absurd (omega (arith, f))
-length-triplets (suc n) (x ∷ lower) (y ∷ upper) (z ∷ stride) f l s = ap suc (length-triplets n lower upper stride (omega (arith, f)) (omega (arith, l)) (omega (arith, s)))
+length-triplets (suc n) (x ∷ lower) (y ∷ upper) (z ∷ stride) f l s =
+    ap suc (length-triplets n lower upper stride (omega (arith, f)) (omega (arith, l)) (omega (arith, s)))
 
 -- ---- members
 
@@ -148,4 +154,5 @@ terms_differ s (negsuc m) j k some below =
 pub subscripts_once : (p : Progression) → IsProgression p → Pairwise (λ x y. x ≢ y) (subscripts_of p)
 subscripts_once p is =
     Pairwise-map (λ x y. x ≢ y) (term_of p) (count_to p.count)
-    (Pairwise-weaker (λ j k. j < k) (λ j k. term_of p j ≢ term_of p k) (λ j k below. terms_differ p.start p.stride j k is.steps below) (count_to p.count) (count_to_rises p.count))
+    (Pairwise-weaker (λ j k. j < k) (λ j k. term_of p j ≢ term_of p k)
+    (λ j k below. terms_differ p.start p.stride j k is.steps below) (count_to p.count) (count_to_rises p.count))

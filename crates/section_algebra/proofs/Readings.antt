@@ -36,7 +36,8 @@ product_wide : (s x : ℤ) → IsInteger s → IsInteger (s +ℤ x) → FitsSign
 product_wide s (pos n) f g = omega (arith, ints, f.0, f.1, g.0, g.1)
 product_wide s (negsuc n) f g = omega (arith, ints, f.0, f.1, g.0, g.1)
 
-pub term_read : (start stride turn : ℤ) → IsInteger start → IsInteger stride → FitsSigned w64 turn → IsInteger (start +ℤ turn *ℤ stride) → read (read start +ℤ read (read turn *ℤ read stride)) ≡ start +ℤ turn *ℤ stride
+pub term_read : (start stride turn : ℤ) → IsInteger start → IsInteger stride → FitsSigned w64 turn
+    → IsInteger (start +ℤ turn *ℤ stride) → read (read start +ℤ read (read turn *ℤ read stride)) ≡ start +ℤ turn *ℤ stride
 term_read start stride turn f g wide whole =
     ap (λ x. read (x +ℤ read (read turn *ℤ read stride))) (read_back start f)
     ∙ ap (λ x. read (start +ℤ read (x *ℤ read stride))) (to_z-of_z w64 turn wide)
@@ -46,7 +47,8 @@ term_read start stride turn f g wide whole =
 
 -- ---- bounds
 
-pub bounds_read : (r : _) (l u y z : ℤ) → FitsSigned w64 l → FitsSigned w64 u → FitsSigned w64 y → y ≡ z → (IsTrue r ↔ ((read l ≤ℤ read y) × (read y ≤ℤ read u))) → (IsTrue r ↔ InBounds l u z)
+pub bounds_read : (r : _) (l u y z : ℤ) → FitsSigned w64 l → FitsSigned w64 u → FitsSigned w64 y → y ≡ z
+    → (IsTrue r ↔ ((read l ≤ℤ read y) × (read y ≤ℤ read u))) → (IsTrue r ↔ InBounds l u z)
 bounds_read r l u y z f g h e k =
     let P : ℤ → Type 0 = λ x. IsTrue r ↔ ((x ≤ℤ read y) × (read y ≤ℤ read u)) in
     let Q : ℤ → Type 0 = λ x. IsTrue r ↔ ((l ≤ℤ read y) × (read y ≤ℤ x)) in
@@ -73,7 +75,9 @@ module _ (first last stride : ℤ) (f : IsInteger first) (l : IsInteger last) (s
   difference_wide = near_wide (last -ℤ first) (omega (arith, ints, f.0, f.1, l.0, l.1)) (omega (arith, ints, f.0, f.1, l.0, l.1))
 
   dividend_wide : FitsSigned w64 (last -ℤ first +ℤ stride)
-  dividend_wide = near_wide (last -ℤ first +ℤ stride) (omega (arith, ints, f.0, f.1, l.0, l.1, s.0, s.1)) (omega (arith, ints, f.0, f.1, l.0, l.1, s.0, s.1))
+  dividend_wide =
+      near_wide (last -ℤ first +ℤ stride) (omega (arith, ints, f.0, f.1, l.0, l.1, s.0, s.1))
+      (omega (arith, ints, f.0, f.1, l.0, l.1, s.0, s.1))
 
   pub dividend_read : read (read (read last -ℤ read first) +ℤ read stride) ≡ last -ℤ first +ℤ stride
   dividend_read =
@@ -86,14 +90,21 @@ module _ (first last stride : ℤ) (f : IsInteger first) (l : IsInteger last) (s
   pub quotient_wide : FitsSigned w64 (int_div (last -ℤ first +ℤ stride) stride)
   quotient_wide =
       fits_signed_from_abs w64 (int_div (last -ℤ first +ℤ stride) stride)
-      (let most : unsigned_abs (last -ℤ first +ℤ stride) < 2 ^ 40 = omega (arith, ints, f.0, f.1, l.0, l.1, s.0, s.1) in omega (arith, quotient_small (last -ℤ first +ℤ stride) stride, most))
+      (let most : unsigned_abs (last -ℤ first +ℤ stride) < 2 ^ 40 = omega (arith, ints, f.0, f.1, l.0, l.1, s.0, s.1) in omega
+      (arith, quotient_small (last -ℤ first +ℤ stride) stride, most))
 
-  pub quotient_read : int_div (read (read (read last -ℤ read first) +ℤ read stride)) (read stride) ≡ int_div (last -ℤ first +ℤ stride) stride
-  quotient_read = ap (λ x. int_div x (read stride)) dividend_read ∙ ap (λ x. int_div (last -ℤ first +ℤ stride) x) (read_back stride s)
+  pub quotient_read : int_div (read (read (read last -ℤ read first) +ℤ read stride)) (read stride)
+      ≡ int_div (last -ℤ first +ℤ stride) stride
+  quotient_read =
+      ap (λ x. int_div x (read stride)) dividend_read
+      ∙ ap (λ x. int_div (last -ℤ first +ℤ stride) x) (read_back stride s)
 
 pub count_natural : (q : ℤ) → pos (unsigned_abs (int_max q (pos 0))) ≡ int_max q (pos 0)
 count_natural q = natural_is (int_max q (pos 0)) (omega (arith, ints, clamps))
 
-pub count_read : (first last stride : ℤ) → IsInteger first → IsInteger last → IsInteger stride → triplet_count (read first) (read last) (read stride) ≡ triplet_count first last stride
+pub count_read : (first last stride : ℤ) → IsInteger first → IsInteger last → IsInteger stride
+    → triplet_count (read first) (read last) (read stride) ≡ triplet_count first last stride
 count_read first last stride f l s =
-    ap (λ x. triplet_count x (read last) (read stride)) (read_back first f) ∙ ap (λ x. triplet_count first x (read stride)) (read_back last l) ∙ ap (λ x. triplet_count first last x) (read_back stride s)
+    ap (λ x. triplet_count x (read last) (read stride)) (read_back first f)
+    ∙ ap (λ x. triplet_count first x (read stride)) (read_back last l)
+    ∙ ap (λ x. triplet_count first last x) (read_back stride s)

@@ -25,22 +25,27 @@ strides_of = map (λ p. p.stride)
 abbrev pub whole_counts_of : List Progression → List ℤ
 whole_counts_of = map (λ p. pos p.count)
 
-pub starts_back : (rank : ℕ) (start stride count : List ℤ) → length start ≡ rank → length stride ≡ rank → length count ≡ rank → starts_of (progressions start stride (naturals count)) ≡ start
+pub starts_back : (rank : ℕ) (start stride count : List ℤ) → length start ≡ rank → length stride ≡ rank → length count ≡ rank
+    → starts_of (progressions start stride (naturals count)) ≡ start
 starts_back rank [] stride count e f g = refl
 starts_back rank (z ∷ start) [] count e f g = absurd (omega (arith, e, f))
 starts_back rank (z ∷ start) (d ∷ stride) [] e f g = absurd (omega (arith, e, g))
 starts_back zero (z ∷ start) (d ∷ stride) (n ∷ count) e f g = absurd (omega (arith, e))
-starts_back (suc rank) (z ∷ start) (d ∷ stride) (n ∷ count) e f g = ap (λ zs. z ∷ zs) (starts_back rank start stride count (omega (arith, e)) (omega (arith, f)) (omega (arith, g)))
+starts_back (suc rank) (z ∷ start) (d ∷ stride) (n ∷ count) e f g =
+    ap (λ zs. z ∷ zs) (starts_back rank start stride count (omega (arith, e)) (omega (arith, f)) (omega (arith, g)))
 
-pub strides_back : (rank : ℕ) (start stride count : List ℤ) → length start ≡ rank → length stride ≡ rank → length count ≡ rank → strides_of (progressions start stride (naturals count)) ≡ stride
+pub strides_back : (rank : ℕ) (start stride count : List ℤ) → length start ≡ rank → length stride ≡ rank → length count ≡ rank
+    → strides_of (progressions start stride (naturals count)) ≡ stride
 strides_back rank [] [] count e f g = refl
 strides_back rank [] (d ∷ stride) count e f g = absurd (omega (arith, e, f))
 strides_back rank (z ∷ start) [] count e f g = absurd (omega (arith, e, f))
 strides_back rank (z ∷ start) (d ∷ stride) [] e f g = absurd (omega (arith, e, g))
 strides_back zero (z ∷ start) (d ∷ stride) (n ∷ count) e f g = absurd (omega (arith, e))
-strides_back (suc rank) (z ∷ start) (d ∷ stride) (n ∷ count) e f g = ap (λ zs. d ∷ zs) (strides_back rank start stride count (omega (arith, e)) (omega (arith, f)) (omega (arith, g)))
+strides_back (suc rank) (z ∷ start) (d ∷ stride) (n ∷ count) e f g =
+    ap (λ zs. d ∷ zs) (strides_back rank start stride count (omega (arith, e)) (omega (arith, f)) (omega (arith, g)))
 
-pub counts_back : (rank : ℕ) (start stride count : List ℤ) → AreNatural count → length start ≡ rank → length stride ≡ rank → length count ≡ rank → whole_counts_of (progressions start stride (naturals count)) ≡ count
+pub counts_back : (rank : ℕ) (start stride count : List ℤ) → AreNatural count → length start ≡ rank → length stride ≡ rank
+    → length count ≡ rank → whole_counts_of (progressions start stride (naturals count)) ≡ count
 counts_back rank [] [] [] h e f g = refl
 counts_back rank [] [] (n ∷ count) h e f g = absurd (omega (arith, e, g))
 counts_back rank [] (d ∷ stride) count h e f g = absurd (omega (arith, e, f))

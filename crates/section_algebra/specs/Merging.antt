@@ -7,7 +7,8 @@ use Rattle.section_algebra.specs.Form.{Term, sum_in, IsSum, IsBelow}
 pub record Grows (old : List Term) (atom : ℕ) (factor : ℤ) (new : List Term) : Type 0 where
   pub sum : IsSum new
   pub value : (values : ℕ → ℤ) → sum_in values new ≡ sum_in values old +ℤ factor *ℤ values atom
-  pub below : (rest : List Term) → Every (λ term. IsBelow term.0.0 rest) old → IsBelow atom rest → Every (λ term. IsBelow term.0.0 rest) new
+  pub below : (rest : List Term) → Every (λ term. IsBelow term.0.0 rest) old → IsBelow atom rest
+      → Every (λ term. IsBelow term.0.0 rest) new
 
 -- none of these atoms is less
 abbrev pub IsLeast : ℕ → List Term → Type 0

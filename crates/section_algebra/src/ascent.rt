@@ -15,7 +15,8 @@ pub(crate) struct Ascent {
 pub(crate) fn crosses(ascent: &Ascent, other: &Ascent) -> bool
     requires ascent { IsAscent ascent.now.first ascent.now.step ascent.now.count }
     requires other { IsAscent other.now.first other.now.step other.now.count }
-    ensures { IsTrue result ↔ Crossing ascent.now.first ascent.now.step ascent.now.count other.now.first other.now.step other.now.count }
+    ensures { IsTrue result ↔
+        Crossing ascent.now.first ascent.now.step ascent.now.count other.now.first other.now.step other.now.count }
 {
     let skipped = turns_before(ascent.first, ascent.step, other.first);
     let end = ascent.count.min(skipped + other.step);

@@ -71,8 +71,10 @@ impl LinearForm {
     /// `a` less `b`: the constant and the factor of each atom are the differences, modulo 2^32.
     pub fn difference(alloc: Global, a: &LinearForm, b: &LinearForm) -> Result<LinearForm, Memory>
         ensures constant { IfOk result (λ form. form.constant ≡ difference_of a.now.constant b.now.constant) }
-        ensures factors { IfOk result (λ form. (atom : ℕ) → factor_in form.terms atom ≡ difference_of (factor_in a.now.terms atom) (factor_in b.now.terms atom)) }
-        ensures value { IfOk result (λ form. (values : ℕ → ℤ) → wrapped (value_of values form) ≡ wrapped (value_of values a.now -ℤ value_of values b.now)) }
+        ensures factors { IfOk result (λ form. (atom : ℕ) →
+            factor_in form.terms atom ≡ difference_of (factor_in a.now.terms atom) (factor_in b.now.terms atom)) }
+        ensures value { IfOk result (λ form. (values : ℕ → ℤ) →
+            wrapped (value_of values form) ≡ wrapped (value_of values a.now -ℤ value_of values b.now)) }
     {
         let terms = terms_apart(alloc, &a.terms, &b.terms)?;
         Ok(LinearForm {
@@ -84,8 +86,10 @@ impl LinearForm {
     /// `factor` times `a`: so are the constant and the factor of each atom, modulo 2^32.
     pub fn scaled(alloc: Global, a: &LinearForm, factor: i32) -> Result<LinearForm, Memory>
         ensures constant { IfOk result (λ form. form.constant ≡ product_of factor a.now.constant) }
-        ensures factors { IfOk result (λ form. (atom : ℕ) → factor_in form.terms atom ≡ product_of factor (factor_in a.now.terms atom)) }
-        ensures value { IfOk result (λ form. (values : ℕ → ℤ) → wrapped (value_of values form) ≡ wrapped (factor *ℤ value_of values a.now)) }
+        ensures factors { IfOk result (λ form. (atom : ℕ) →
+            factor_in form.terms atom ≡ product_of factor (factor_in a.now.terms atom)) }
+        ensures value { IfOk result (λ form. (values : ℕ → ℤ) →
+            wrapped (value_of values form) ≡ wrapped (factor *ℤ value_of values a.now)) }
     {
         let terms = terms_scaled(alloc, &a.terms, factor)?;
         Ok(LinearForm {
@@ -114,7 +118,8 @@ fn terms_apart(
     requires a { IsSum a.now }
     requires b { IsSum b.now }
     ensures sum { IfOk result (λ terms. IsSum terms.items) }
-    ensures value { IfOk result (λ terms. (values : ℕ → ℤ) → wrapped (sum_in values terms.items) ≡ wrapped (sum_in values a.now -ℤ sum_in values b.now)) }
+    ensures value { IfOk result (λ terms. (values : ℕ → ℤ) →
+        wrapped (sum_in values terms.items) ≡ wrapped (sum_in values a.now -ℤ sum_in values b.now)) }
 {
     let mut terms = Vec::new(alloc);
     let mut from_a = 0;
@@ -132,7 +137,8 @@ fn terms_apart(
 fn terms_scaled(alloc: Global, a: &[(Atom, i32)], factor: i32) -> Result<Vec<(Atom, i32)>, Memory>
     requires { IsSum a.now }
     ensures sum { IfOk result (λ terms. IsSum terms.items) }
-    ensures value { IfOk result (λ terms. (values : ℕ → ℤ) → wrapped (sum_in values terms.items) ≡ wrapped (factor *ℤ sum_in values a.now)) }
+    ensures value { IfOk result (λ terms. (values : ℕ → ℤ) →
+        wrapped (sum_in values terms.items) ≡ wrapped (factor *ℤ sum_in values a.now)) }
 {
     let mut terms = Vec::new(alloc);
     for term in a {
@@ -160,7 +166,8 @@ fn least_left(a: &[(Atom, i32)], from_a: usize, b: &[(Atom, i32)], from_b: usize
     requires b { IsSum b.now }
     requires within_a { from_a ≤ length a.now }
     requires within_b { from_b ≤ length b.now }
-    ensures { MatchOption result ((from_a ≡ length a.now) × (from_b ≡ length b.now)) (λ atom. IsLeastOf (drop from_a a.now) (drop from_b b.now) atom.0) }
+    ensures { MatchOption result ((from_a ≡ length a.now) × (from_b ≡ length b.now))
+        (λ atom. IsLeastOf (drop from_a a.now) (drop from_b b.now) atom.0) }
 {
     if from_a == a.len() {
         if from_b == b.len() {

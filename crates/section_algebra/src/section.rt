@@ -31,13 +31,17 @@ impl<const R: usize> Model for Section<R> {
 
     ghost invariant = { λ s. SectionFields R s.start s.stride s.count };
 
-    ghost inverse = { λ section. record { start = starts_of section; stride = strides_of section; count = whole_counts_of section } };
+    ghost inverse = { λ section.
+        record { start = starts_of section; stride = strides_of section; count = whole_counts_of section } };
 
     ghost inverse_ok = { λ s holds.
         let section = progressions s.start s.stride (naturals s.count) in
-        ap (λ start. record { start = start; stride = strides_of section; count = whole_counts_of section }) (starts_back R s.start s.stride s.count holds.start_long holds.stride_long holds.count_long)
-        ∙ ap (λ stride. record { start = s.start; stride = stride; count = whole_counts_of section }) (strides_back R s.start s.stride s.count holds.start_long holds.stride_long holds.count_long)
-        ∙ ap (λ count. record { start = s.start; stride = s.stride; count = count }) (counts_back R s.start s.stride s.count holds.natural holds.start_long holds.stride_long holds.count_long) };
+        ap (λ start. record { start = start; stride = strides_of section; count = whole_counts_of section })
+        (starts_back R s.start s.stride s.count holds.start_long holds.stride_long holds.count_long)
+        ∙ ap (λ stride. record { start = s.start; stride = stride; count = whole_counts_of section })
+        (strides_back R s.start s.stride s.count holds.start_long holds.stride_long holds.count_long)
+        ∙ ap (λ count. record { start = s.start; stride = s.stride; count = count })
+        (counts_back R s.start s.stride s.count holds.natural holds.start_long holds.stride_long holds.count_long) };
 }
 
 impl<const R: usize> Section<R> {

@@ -26,11 +26,13 @@ impl Model for Triplet {
 
     ghost view = { λ t. record { start = t.start; stride = t.stride; count = unsigned_abs t.count } };
 
-    ghost invariant = { λ t. (pos 0 ≤ℤ t.count) × IsProgression (record { start = t.start; stride = t.stride; count = unsigned_abs t.count }) };
+    ghost invariant = { λ t.
+        (pos 0 ≤ℤ t.count) × IsProgression (record { start = t.start; stride = t.stride; count = unsigned_abs t.count }) };
 
     ghost inverse = { λ p. record { start = p.start; stride = p.stride; count = pos p.count } };
 
-    ghost inverse_ok = { λ t holds. ap (λ count. record { start = t.start; stride = t.stride; count = count }) (natural_is t.count holds.0) };
+    ghost inverse_ok = { λ t holds.
+        ap (λ count. record { start = t.start; stride = t.stride; count = count }) (natural_is t.count holds.0) };
 }
 
 impl Triplet {

@@ -10,4 +10,5 @@ returns c =
     let P : List Term → Type 0 = Grows c.args.terms.now.items c.args.atom.0 c.args.factor in
     let push : ℤ → List Term = λ factor. c.args.terms.now.items ++ (c.args.atom, factor) ∷ [] in
     subst P (sym (c.in_ok-push.ensures.items ∙ ap push (to_z-of_z w32 c.args.factor c.ranges.factor)))
-    (grows c.args.terms.now.items (c.args.atom, c.args.factor) c.requires.sum c.requires.lesser (fits_integer c.args.factor c.ranges.factor) (λ e. c.if-factor-eq0.false (ap (of_z w32) e)))
+    (grows c.args.terms.now.items (c.args.atom, c.args.factor) c.requires.sum c.requires.lesser
+    (fits_integer c.args.factor c.ranges.factor) (λ e. c.if-factor-eq0.false (ap (of_z w32) e)))

@@ -5,7 +5,8 @@ use Rattle.section_algebra.proofs.linear_form.take_term.Goals as goal
 
 pub returns-then-first-atom : goal.returns-then-first-atom
 returns-then-first-atom c =
-    takes_none c.args.terms.now c.args.from _ c.args.atom.0 c.requires.sum (omega arith) (least_at c.args.terms.now c.args.from _ c.args.atom.0 (omega arith) c.requires.least) c.if-first-atom.true
+    takes_none c.args.terms.now c.args.from _ c.args.atom.0 c.requires.sum (omega arith)
+    (least_at c.args.terms.now c.args.from _ c.args.atom.0 (omega arith) c.requires.least) c.if-first-atom.true
 
 pub returns : goal.returns
 returns c =

@@ -11,7 +11,9 @@ invariant-loop-atom l = record {
   sum : IsSum l.terms.items;
   below_a : Every (λ term. IsBelow term.0.0 (drop l.from_a l.a)) l.terms.items;
   below_b : Every (λ term. IsBelow term.0.0 (drop l.from_b l.b)) l.terms.items;
-  value : (values : ℕ → ℤ) → wrapped (sum_in values l.terms.items) ≡ wrapped (sum_in values (take l.from_a l.a) -ℤ sum_in values (take l.from_b l.b));
+  value : (values : ℕ → ℤ)
+      → wrapped (sum_in values l.terms.items) ≡ wrapped
+      (sum_in values (take l.from_a l.a) -ℤ sum_in values (take l.from_b l.b));
 }
 
 abbrev pub decreases-loop-atom : goal.decreases-loop-atom

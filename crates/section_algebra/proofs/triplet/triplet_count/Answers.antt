@@ -17,5 +17,8 @@ pub returns : goal.returns
 returns c =
     let wide : FitsSigned w64 c.max.result = search rules in
     let q : ℤ = int_div (c.args.last -ℤ c.args.first +ℤ c.args.stride) c.args.stride in
-    let q_is = ap read (quotient_read c.args.first c.args.last c.args.stride c.requires.first c.requires.last c.requires.stride) ∙ to_z-of_z w64 q (quotient_wide c.args.first c.args.last c.args.stride c.requires.first c.requires.last c.requires.stride) in
+    let q_is =
+    ap read (quotient_read c.args.first c.args.last c.args.stride c.requires.first c.requires.last c.requires.stride)
+    ∙ to_z-of_z w64 q (quotient_wide c.args.first c.args.last c.args.stride c.requires.first c.requires.last c.requires.stride)
+    in
     to_z-of_z w64 c.max.result wide ∙ c.max.ensures.value ∙ ap (λ x. int_max x (pos 0)) q_is ∙ sym (count_natural q)

@@ -6,7 +6,8 @@ use Rattle.section_algebra.specs.Form.{sum_in}
 use Rattle.section_algebra.proofs.Forms.{integer_fits, factors_scaled, value_scaled}
 use Rattle.section_algebra.proofs.linear_form.LinearForm.scaled.Goals as goal
 
-known : (c : goal.After-result-1) (values : ℕ → ℤ) → wrapped (sum_in values c.in_ok-terms.terms.items) ≡ wrapped (c.args.factor *ℤ sum_in values c.args.a.now.terms)
+known : (c : goal.After-result-1) (values : ℕ → ℤ)
+    → wrapped (sum_in values c.in_ok-terms.terms.items) ≡ wrapped (c.args.factor *ℤ sum_in values c.args.a.now.terms)
 known c values =
     c.in_ok-terms.ensures.value values
     ∙ ap (λ z. wrapped (z *ℤ sum_in values c.deref.result.now)) (to_z-of_z w32 c.args.factor c.ranges.factor)
@@ -19,8 +20,10 @@ returns-clause-constant c =
     ∙ ap (λ f. product_of c.args.factor f.constant) c.a.view_is
 
 pub returns-clause-factors : goal.returns-clause-factors
-returns-clause-factors c = λ atom. factors_scaled c.in_ok-terms.terms.items c.args.a.now.terms c.args.factor atom c.in_ok-terms.ensures.sum (known c)
+returns-clause-factors c =
+    λ atom. factors_scaled c.in_ok-terms.terms.items c.args.a.now.terms c.args.factor atom c.in_ok-terms.ensures.sum (known c)
 
 pub returns-clause-value : goal.returns-clause-value
 returns-clause-value c = λ values.
-    value_scaled c.args.a.now.constant (sum_in values c.args.a.now.terms) (sum_in values c.in_ok-terms.terms.items) c.args.factor _ (returns-clause-constant c) (known c values)
+    value_scaled c.args.a.now.constant (sum_in values c.args.a.now.terms) (sum_in values c.in_ok-terms.terms.items)
+    c.args.factor _ (returns-clause-constant c) (known c values)

@@ -14,4 +14,7 @@ returns g c =
     and_so _ _ _ c.runs_on.ensures
     (runs_are_consecutive c.args.whole.now c.args.self.now
     (from_one_is g.row.R c.args.whole.now c.args.self.now
-    ((within_is (replicate g.row.R (pos 1)) (map pos c.args.whole.now) c.args.self.now (ones_long g.row.R c.args.self.now c.known.ensures.section.long) (extents_long g.row.R c.args.whole.now c.args.self.now c.known-2.ensures.long c.known.ensures.section.long) some).1 c.requires)) some)
+    ((within_is (replicate g.row.R (pos 1)) (map pos c.args.whole.now) c.args.self.now
+    (ones_long g.row.R c.args.self.now c.known.ensures.section.long)
+    (extents_long g.row.R c.args.whole.now c.args.self.now c.known-2.ensures.long c.known.ensures.section.long) some).1
+    c.requires)) some)

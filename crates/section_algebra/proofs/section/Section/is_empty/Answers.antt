@@ -10,13 +10,18 @@ loop-dim-init g c = λ none. none
 
 pub returns-then-count-eq0 : goal.returns-then-count-eq0
 returns-then-count-eq0 g c =
-    let zero : get_or (counts_of c.args.self.now) c.loop-dim.dim 0 ≡ 0 = omega (arith, ints, c.count.ensures, c.if-count-eq0.true) in
+    let zero : get_or (counts_of c.args.self.now) c.loop-dim.dim 0 ≡ 0 =
+    omega (arith, ints, c.count.ensures, c.if-count-eq0.true) in
     always _ (one_none c.args.self.now c.loop-dim.dim (omega (arith, c.known.ensures.section.long)) zero)
 
 pub loop-dim-preserved : goal.loop-dim-preserved
 loop-dim-preserved g c = λ empty.
     none_later c.args.self.now c.loop-dim.dim none (omega (arith, c.known.ensures.section.long)) (c.loop-dim.invariant empty)
-    (λ e. c.if-count-eq0.false (ap (of_z w64) (c.count.ensures ∙ ap pos (count_at c.args.self.now c.loop-dim.dim none (omega (arith, c.known.ensures.section.long)) ∙ e))))
+    (λ e. c.if-count-eq0.false (ap (of_z w64)
+    (c.count.ensures ∙ ap pos (count_at c.args.self.now c.loop-dim.dim none (omega (arith, c.known.ensures.section.long)) ∙
+    e))))
 
 pub returns : goal.returns
-returns g c = never _ (λ empty. none_at_the_end c.args.self.now c.loop-dim.dim (omega (arith, c.known.ensures.section.long)) (c.loop-dim.invariant empty))
+returns g c =
+    never _ (λ empty. none_at_the_end c.args.self.now c.loop-dim.dim (omega (arith, c.known.ensures.section.long))
+    (c.loop-dim.invariant empty))

@@ -7,7 +7,8 @@ use Rattle.section_algebra.proofs.Sections.{places_are_once}
 use Rattle.section_algebra.proofs.section.Section.known.Goals as goal
 
 pub returns-clause-section : goal.returns-clause-section
-returns-clause-section g c = let P : List Progression → Type 0 = IsSection g.row.R in subst P c.self.view_is c.self.invariant.section
+returns-clause-section g c =
+    let P : List Progression → Type 0 = IsSection g.row.R in subst P c.self.view_is c.self.invariant.section
 
 pub returns-clause-once : goal.returns-clause-once
 returns-clause-once g c =

@@ -6,5 +6,6 @@ use Rattle.section_algebra.proofs.section.Section.place.Given as goal
 abbrev pub invariant-loop-dim : goal.invariant-loop-dim
 invariant-loop-dim g l = record {
   long : length l.named ≡ g.row.R;
-  same : take l.dim l.named ++ place_named (drop l.dim l.self) (drop l.dim (naturals l.at.at)) ≡ place_named l.self (naturals l.at.at);
+  same : take l.dim l.named ++ place_named (drop l.dim l.self) (drop l.dim (naturals l.at.at))
+      ≡ place_named l.self (naturals l.at.at);
 }

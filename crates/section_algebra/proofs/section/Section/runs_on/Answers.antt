@@ -14,7 +14,9 @@ loop-dim-preserved g c =
     let extent_wide : FitsSigned w64 c.extent.result = search rules in
     let next_is = simp to_z-of_z at c.covers-full.ensures in
     goes_on _ _ _ _ c.loop-dim.invariant
-    (runs_next c.loop-dim.full _ c.args.self.now c.args.whole.now c.loop-dim.dim _ _ _ _ (omega (arith, c.known.ensures.section.long)) (omega (arith, c.known-2.ensures.long)) c.triplet_at-triplet.ensures c.count.ensures c.extent.ensures next_is)
+    (runs_next c.loop-dim.full _ c.args.self.now c.args.whole.now c.loop-dim.dim _ _ _ _
+    (omega (arith, c.known.ensures.section.long)) (omega (arith, c.known-2.ensures.long)) c.triplet_at-triplet.ensures
+    c.count.ensures c.extent.ensures next_is)
     (c.goes_on.ensures.0 c.if-not-goes_on.false)
 
 pub returns-then-not-goes_on : goal.returns-then-not-goes_on
@@ -22,8 +24,11 @@ returns-then-not-goes_on g c =
     never _
     (λ r.
     iff_false c.goes_on.ensures c.if-not-goes_on.true
-    (goes_moved c.loop-dim.full c.args.self.now c.args.whole.now c.loop-dim.dim _ _ (omega (arith, c.known.ensures.section.long)) (omega (arith, c.known-2.ensures.long)) c.triplet_at-triplet.ensures (c.loop-dim.invariant.0 r)))
+    (goes_moved c.loop-dim.full c.args.self.now c.args.whole.now c.loop-dim.dim _ _
+    (omega (arith, c.known.ensures.section.long)) (omega (arith, c.known-2.ensures.long)) c.triplet_at-triplet.ensures
+    (c.loop-dim.invariant.0 r)))
 
 pub returns : goal.returns
 returns g c =
-    always _ (c.loop-dim.invariant.1 (all_run c.loop-dim.full c.args.self.now c.args.whole.now c.loop-dim.dim (omega (arith, c.known.ensures.section.long)) (omega (arith, c.known-2.ensures.long))))
+    always _ (c.loop-dim.invariant.1 (all_run c.loop-dim.full c.args.self.now c.args.whole.now c.loop-dim.dim
+    (omega (arith, c.known.ensures.section.long)) (omega (arith, c.known-2.ensures.long))))
