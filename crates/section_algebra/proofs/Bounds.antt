@@ -1,5 +1,5 @@
 -- Which sections lie within bounds: those without places, and those whose subscripts do, dimension by dimension.
-use Rattle.std.proofs.Common.{◌≡◌, ◌≢◌, ℕ, ℤ, suc, ◌+◌, ◌-◌, ◌*◌, ◌<◌, ◌≤◌, List, [], ◌∷◌, length, map, get_or, drop, sym, ap, ◌∙◌, subst, inl, inr, arith}
+use Rattle.std.proofs.Common.{◌≡◌, ◌≢◌, ℕ, ℤ, suc, ◌+◌, ◌*◌, ◌<◌, ◌≤◌, List, [], ◌∷◌, length, map, get_or, drop, sym, ap, ◌∙◌, subst, inl, inr, arith}
 use Rattle.std.specs.Prelude.{◌↔◌}
 use Rattle.std.proofs.lemmas.Bool.{cases_lt}
 use Rattle.std.proofs.lemmas.Nat.{mul-le}
@@ -97,8 +97,8 @@ all_some [] some = tt
 all_some (p ∷ section) some =
     elim (cases_lt 0 p.count) [
       | inl here ↦ (here, all_some section (λ none. some (omega (arith, ap (λ n. p.count * n) none))))
-      | inr none ↦ absurd (some (let zero_here : p.count ≡ 0 = omega arith in omega
-          (arith, ap (λ n. n * size_of (counts_of section)) zero_here)))
+      | inr none ↦ absurd (some (let zero_here : p.count ≡ 0 = omega arith in
+          omega (arith, ap (λ n. n * size_of (counts_of section)) zero_here)))
     ]
 
 pub size_of_some : (section : List Progression) → AllSome section → 0 < size_of (counts_of section)

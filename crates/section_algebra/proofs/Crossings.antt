@@ -58,8 +58,8 @@ first_crossing first step count other other_step other_count skipped some reache
     let is : turn ≡ low + rounds * other_step = omega (arith, div-add-mod' extra other_step, later) in
     let rest : extra % other_step < other_step = mod_below extra other_step some in
     let low_reached : other ≤ first + low * step =
-    (let more : skipped * step ≤ low * step = mul-le skipped step low step (omega arith) (omega arith) in omega
-    (arith, reached, more)) in
+    (let more : skipped * step ≤ low * step = mul-le skipped step low step (omega arith) (omega arith) in
+    omega (arith, reached, more)) in
     let below_turn : low ≤ turn = omega (arith, is) in (
       low,
       (
@@ -110,8 +110,8 @@ turns_least first step bound k some above reached =
     let gap : ℕ = bound - first - 1 in
     elim (cases_lt (gap / step) k) [
       | inl less ↦ omega arith
-      | inr more ↦ absurd (let most : k * step ≤ gap / step * step = mul-le k step (gap / step) step more (omega arith) in omega
-          (arith, div-add-mod' gap step, most, reached, above))
+      | inr more ↦ absurd (let most : k * step ≤ gap / step * step = mul-le k step (gap / step) step more (omega arith) in
+          omega (arith, div-add-mod' gap step, most, reached, above))
     ]
 
 -- what is tested of a number
@@ -127,8 +127,7 @@ pub on_whole : (n first step count : ℕ) → 0 < step → IsOn n first step cou
 on_whole n first step count some on =
     let gap : n - first ≡ on.turn * step + 0 = omega (arith, on.is) in (
       ap (λ x. x % step) gap ∙ mod-mul-add on.turn step 0 some,
-      omega
-          (arith, ap (λ x. x / step) gap ∙ div-mul-add on.turn step 0 some, on.below),
+      omega (arith, ap (λ x. x / step) gap ∙ div-mul-add on.turn step 0 some, on.below),
     )
 
 -- ---- subscripts as ascending natural numbers, from -2 ^ 31 on
@@ -159,8 +158,8 @@ ascending_term s d first step k e f = ap (λ x. s +ℤ pos k *ℤ x) f ∙ omega
 pub ascends_up : (p : Progression) (first step : ℕ) → p.start +ℤ pos 2147483648 ≡ pos first → p.stride ≡ pos step
     → Ascends p first step
 ascends_up p first step e f = record {
-  has = λ k h. let P : ℤ → Type 0 = λ z. Member (subscripts_of p) z in subst P
-      (ascending_term p.start p.stride first step k e f) (term_is_member p k h);
+  has = λ k h. let P : ℤ → Type 0 = λ z. Member (subscripts_of p) z in
+      subst P (ascending_term p.start p.stride first step k e f) (term_is_member p k h);
   only = λ z h. let t = turn_of p z h in (t.turn, (t.below, sym t.is ∙ ascending_term p.start p.stride first step t.turn e f));
 }
 
@@ -176,8 +175,8 @@ descending_term s d first (suc m) last j k split e f =
 pub ascends_down : (p : Progression) (first step last : ℕ) → p.count ≡ suc last → term_of p last +ℤ pos 2147483648 ≡ pos first
     → p.stride ≡ neg_ℤ (pos step) → Ascends p first step
 ascends_down p first step last some e f = record {
-  has = λ k h. let P : ℤ → Type 0 = λ z. Member (subscripts_of p) z in subst P
-      (descending_term p.start p.stride first step last (last - k) k (omega (arith, some, h)) e f)
+  has = λ k h. let P : ℤ → Type 0 = λ z. Member (subscripts_of p) z in
+      subst P (descending_term p.start p.stride first step last (last - k) k (omega (arith, some, h)) e f)
       (term_is_member p (last - k) (omega (arith, some)));
   only = λ z h. let t = turn_of p z h in (
     last - t.turn,

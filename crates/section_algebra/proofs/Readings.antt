@@ -1,5 +1,5 @@
 -- INTEGERs as 64-bit numbers: what the code reads of one is the number itself, and so are what it computes of them.
-use Rattle.std.proofs.Common.{◌≡◌, ◌≢◌, ℕ, ℤ, pos, zero, suc, ◌+◌, ◌-◌, ◌^◌, ◌<◌, ◌≤◌, ◌+ℤ◌, ◌-ℤ◌, ◌*ℤ◌, ◌≤ℤ◌, List, length, get_or, refl, sym, ap, ◌∙◌, subst, arith, FitsSigned, w64, of_z, to_z}
+use Rattle.std.proofs.Common.{◌≡◌, ◌≢◌, ℕ, ℤ, pos, zero, suc, ◌^◌, ◌<◌, ◌≤◌, ◌+ℤ◌, ◌-ℤ◌, ◌*ℤ◌, ◌≤ℤ◌, List, length, get_or, refl, sym, ap, ◌∙◌, subst, arith, FitsSigned, w64, of_z, to_z}
 use Rattle.std.specs.Prelude.{◌↔◌, negsuc, neg_ℤ, int_div, unsigned_abs, IsTrue}
 use Rattle.std.specs.Int.{int_max}
 use Rattle.std.proofs.Math.Nat.{div-le_self}
@@ -90,8 +90,8 @@ module _ (first last stride : ℤ) (f : IsInteger first) (l : IsInteger last) (s
   pub quotient_wide : FitsSigned w64 (int_div (last -ℤ first +ℤ stride) stride)
   quotient_wide =
       fits_signed_from_abs w64 (int_div (last -ℤ first +ℤ stride) stride)
-      (let most : unsigned_abs (last -ℤ first +ℤ stride) < 2 ^ 40 = omega (arith, ints, f.0, f.1, l.0, l.1, s.0, s.1) in omega
-      (arith, quotient_small (last -ℤ first +ℤ stride) stride, most))
+      (let most : unsigned_abs (last -ℤ first +ℤ stride) < 2 ^ 40 = omega (arith, ints, f.0, f.1, l.0, l.1, s.0, s.1) in
+      omega (arith, quotient_small (last -ℤ first +ℤ stride) stride, most))
 
   pub quotient_read : int_div (read (read (read last -ℤ read first) +ℤ read stride)) (read stride)
       ≡ int_div (last -ℤ first +ℤ stride) stride

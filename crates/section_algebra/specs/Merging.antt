@@ -1,5 +1,5 @@
 -- What the steps of a merge of two sums do. No public clause cites this.
-use Rattle.std.specs.Prelude.{◌≡◌, ◌⊎◌, ℕ, ℤ, ◌<◌, ◌≤◌, ◌+◌, ◌+ℤ◌, ◌*ℤ◌, List, [], ◌∷◌, length, take, drop}
+use Rattle.std.specs.Prelude.{◌≡◌, ◌⊎◌, ℕ, ℤ, ◌<◌, ◌≤◌, ◌+ℤ◌, ◌*ℤ◌, List, [], ◌∷◌, length, take, drop}
 use Rattle.a95_base.specs.Lists.{Every}
 use Rattle.section_algebra.specs.Form.{Term, sum_in, IsSum, IsBelow}
 

@@ -1,4 +1,4 @@
-use Rattle.std.proofs.Common.{◌≡◌, ◌≢◌, ℕ, ℤ, pos, suc, ◌+◌, ◌-◌, ◌≤◌, ◌<◌, ◌<ℤ◌, ◌≤ℤ◌, ◌+ℤ◌, sym, ap, ◌∙◌, subst, arith, FitsSigned, w64, rules}
+use Rattle.std.proofs.Common.{◌≡◌, ◌≢◌, ℕ, ℤ, pos, suc, ◌-◌, ◌<ℤ◌, ◌≤ℤ◌, ◌+ℤ◌, sym, ap, ◌∙◌, subst, arith, FitsSigned, w64, rules}
 use Rattle.std.specs.Prelude.{unsigned_abs}
 use Rattle.std.proofs.lemmas.Int.{ints}
 use Rattle.section_algebra.specs.Section.{Progression, IsProgression, term_of}
