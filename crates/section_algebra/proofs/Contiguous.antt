@@ -184,14 +184,12 @@ runs_are_consecutive (e ∷ extents) (p ∷ section) h some =
       λ r. subst P (sym (numbers_are_rows e extents p section))
           (joined.1 (
             rising_offsets p e h.0 (elim r.0 [ inl few ↦ inl few | inr on ↦ inr on.1 ]),
-            subst Q
-                (sym (length-offsets p)) (after.0 r.1),
+            subst Q (sym (length-offsets p)) (after.0 r.1),
           )),
       λ c.
           let parts = joined.0 (subst P (numbers_are_rows e extents p section) c) in (
             elim (offsets_rise p e h.0 parts.0) [ inl few ↦ inl few | inr one ↦ inr (refl, one) ],
-            after.1
-                (subst Q (length-offsets p) parts.1),
+            after.1 (subst Q (length-offsets p) parts.1),
           ),
     )
 
