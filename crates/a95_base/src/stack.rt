@@ -61,20 +61,22 @@ impl<T: Drop> Stack<T> {
         let _ = self.pop();
     }
 
-    /// The same list, as items.
+    /// The same list, as items, with no room for more.
     pub fn into_items(self) -> Items<T>
         ensures { result ≡ self }
     {
         let Stack { mut items } = self;
         items.reverse();
+        items.shrink_to_fit();
         Items::from_vec(items)
     }
 
-    /// The items, the first one last.
+    /// The items, the first one last, with no room for more.
     pub fn into_reversed(self) -> Items<T>
         ensures { result ≡ reverse self }
     {
-        let Stack { items } = self;
+        let Stack { mut items } = self;
+        items.shrink_to_fit();
         Items::from_vec(items)
     }
 
