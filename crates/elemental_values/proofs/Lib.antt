@@ -1,0 +1,2 @@
+pub mod SeenLists
+pub mod Signs
