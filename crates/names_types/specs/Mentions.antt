@@ -3,11 +3,8 @@
 use Rattle.std.specs.Prelude.{ℕ, List, [], ◌∷◌, ◌++◌, map, Option, Some, None}
 use Rattle.std.specs.List.{flat_map}
 use Rattle.f95_tree.specs.Forms.{Word}
-use Rattle.names_types.specs.Plain.{Expr, Literal, Named, Bracketed, Constructor, Signed, Binary, Reference, Whole, Applied}
-use Rattle.names_types.specs.Plain.{Substring, Bound, Absent, Given, Items, no_item, plain, keyword, triplet, Values, no_value}
-use Rattle.names_types.specs.Plain.{value, loop, Number, Computed, Assumed, TypeSpec, Integer, Logical, Character, Dim, Upper, Both}
-use Rattle.names_types.specs.Plain.{Lower, Deferred, Attribute, Parameter, Allocatable, Dimension, Intended, Entity, Declaration}
-use Rattle.names_types.specs.Plain.{Mention}
+use Rattle.names_types.specs.declared.mention.Mention.{Mention}
+use Rattle.names_types.specs.Plain.{Expr, Literal, Named, Bracketed, Constructor, Signed, Binary, Reference, Whole, Applied, Substring, Bound, Absent, Given, Items, no_item, plain, keyword, triplet, Values, no_value, value, loop, Number, Computed, Assumed, TypeSpec, Integer, Logical, Character, Dim, Upper, Both, Lower, Deferred, Attribute, Parameter, Allocatable, Dimension, Intended, Entity, Declaration}
 
 abbrev mutual
   pub names_in : Expr → List Word

@@ -6,6 +6,7 @@ use Rattle.f95_tree.specs.Forms.{Word}
 use Rattle.f95_tree.specs.declared.terminal.Operator.{Operator}
 use Rattle.f95_tree.specs.declared.terminal.Sign.{Sign}
 use Rattle.f95_tree.specs.declared.declaration.Intent.{Intent}
+use Rattle.names_types.specs.declared.mention.Mention.{Mention}
 
 -- ---- expressions
 
@@ -84,11 +85,6 @@ pub record Use : Type 0 where
   pub line : ℕ
   pub «module» : Word
   pub only : Option (List Word)
-
--- a name that the statement on a line names
-pub record Mention : Type 0 where
-  pub line : ℕ
-  pub name : Word
 
 -- what a program unit or a procedure has of its own; `mentions` are those of its statements
 pub record Part : Type 0 where

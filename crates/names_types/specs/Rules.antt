@@ -13,9 +13,8 @@ use Rattle.a95_base.specs.Rules.{rank_too_great, wrong_length, shape_too_large, 
 use Rattle.a95_base.specs.Rules.{no_specification_expression}
 use Rattle.f95_tree.specs.Forms.{Word}
 use Rattle.intrinsic_table.specs.Finding.{is_word}
-use Rattle.names_types.specs.Plain.{Expr, Constructor, Values, no_value, value, loop, Number, Computed, Assumed, TypeSpec, Integer}
-use Rattle.names_types.specs.Plain.{Logical, Character, Dim, Upper, Both, Lower, Deferred, Attribute, Use, Mention, Function}
-use Rattle.names_types.specs.Plain.{Source}
+use Rattle.names_types.specs.declared.mention.Mention.{Mention}
+use Rattle.names_types.specs.Plain.{Expr, Constructor, Values, no_value, value, loop, Number, Computed, Assumed, TypeSpec, Integer, Logical, Character, Dim, Upper, Both, Lower, Deferred, Attribute, Use, Function, Source}
 use Rattle.names_types.specs.Constants.{Worth, Is, is_spoilt, Valued, is_kind, Sense, valued}
 use Rattle.names_types.specs.Scopes.{is_among, Object, is_parameter, is_allocatable, is_dimension, is_intended, is_constant}
 use Rattle.names_types.specs.Scopes.{has_allocatable, has_intent, is_scalar, kind_of, Meant, Form, Brings, Declares, Types, Begins}

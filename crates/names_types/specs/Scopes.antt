@@ -16,9 +16,12 @@ use Rattle.f95_tree.specs.declared.declaration.Intent.TheVariants as intent
 use Rattle.intrinsic_table.specs.declared.intrinsic.Intrinsic.{Intrinsic}
 use Rattle.intrinsic_table.specs.Finding.{is_word}
 use Rattle.names_types.specs.Keywords.{intrinsic_named}
-use Rattle.names_types.specs.Plain.{Expr, Number, Computed, Assumed, TypeSpec, Integer, Logical, Character, Dim, Attribute}
-use Rattle.names_types.specs.Plain.{Parameter, Allocatable, Dimension, Intended, Entity, Declaration, Use, Mention, Part, Function}
-use Rattle.names_types.specs.Plain.{Procedure, Host, Module, Source}
+use Rattle.names_types.specs.Plain.{Expr, Number, Computed, Assumed, TypeSpec, Integer, Logical, Character, Dim, Attribute, Parameter, Allocatable, Dimension, Intended, Entity, Declaration, Use, Part, Function, Procedure, Host, Module, Source}
+use Rattle.names_types.specs.declared.mention.Mention.{Mention}
+pub use Rattle.names_types.specs.declared.meaning.Meaning.{Meaning}
+pub use Rattle.names_types.specs.declared.meaning.Meaning.TheVariants.{Constant, Variable, Called}
+pub use Rattle.names_types.specs.declared.meaning.Share.{Share}
+pub use Rattle.names_types.specs.declared.meaning.Offer.{Offer}
 use Rattle.names_types.specs.Mentions.{names_in, names_in_type, mentions_on, mentions_in_declarations}
 use Rattle.names_types.specs.Constants.{facts_of, an_integer, is_kind, Worth, Is, Spoilt, Unknown, Valued, valued_as, Sense, Names}
 use Rattle.names_types.specs.Constants.{NamesArray, NamesIntrinsic, NamesOther, valued, then_option, only_if, text_of}
@@ -108,13 +111,6 @@ kind_of (Character l) = kind.Text
 
 -- ---- what a name means
 
-pub data Meaning : Type 0 where
-  -- a named constant, with its type and its value
-  Constant : Valued → Meaning
-  -- a variable of that rank
-  Variable : ℕ → Meaning
-  Called : Meaning
-
 pub record Meant : Type 0 where
   pub name : Word
   pub meaning : Meaning
@@ -143,16 +139,6 @@ pub record Entry : Type 0 where
 
 abbrev pub entry : ℕ → Word → Form → Entry
 entry line name form = record { line = line; name = name; form = form }
-
--- what a module has for USE
-pub record Share : Type 0 where
-  pub name : Word
-  pub place : ℕ
-  pub meaning : Meaning
-
-pub record Offer : Type 0 where
-  pub name : Word
-  pub shares : List Share
 
 pub data Place : Type 0 where
   InMain : Place

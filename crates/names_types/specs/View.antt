@@ -54,9 +54,12 @@ use Rattle.f95_tree.specs.declared.source.Statement.TheOpen.{Statement-F, Branch
 use Rattle.f95_tree.specs.declared.source.Statement.TheOpen as statement_layer
 use Rattle.f95_tree.specs.declared.source.Statement.TheFolds.{fold-Statement, fold-Branch, fold-Case, fold-Otherwise}
 use Rattle.f95_tree.specs.declared.source.WhereBlock.{WhereBlock}
+use Rattle.f95_tree.specs.declared.source.WhereStatement.{WhereStatement}
+use Rattle.f95_tree.specs.declared.source.ElseWhere.{ElseWhere}
 use Rattle.f95_tree.specs.declared.source.WhereStatement.TheOpen.{WhereStatement-F, ElseWhere-F, WhereBlock-F}
 use Rattle.f95_tree.specs.declared.source.WhereStatement.TheOpen as where_layer
-use Rattle.f95_tree.specs.declared.source.WhereStatement.TheFolds.{fold-WhereBlock}
+use Rattle.f95_tree.specs.declared.source.WhereStatement.TheFolds.{fold-WhereBlock, fold-WhereStatement, fold-ElseWhere}
+use Rattle.names_types.specs.declared.mention.Mention.{Mention}
 use Rattle.names_types.specs.Plain as plain
 use Rattle.names_types.specs.Mentions.{names_in, names_in_reference, mentions_on}
 
@@ -160,7 +163,7 @@ declaration_of d = record {
 -- ---- the names that a statement names, each with its line
 
 abbrev pub Mentions : Type 0
-Mentions = List plain.Mention
+Mentions = List Mention
 
 abbrev pub together : List Mentions → Mentions
 together [] = []
@@ -246,6 +249,12 @@ where_block_at b = mentions_on b.line.0 (names_of b.mask) ++ (together b.body ++
 
 abbrev pub where_mentions : WhereBlock → Mentions
 where_mentions = fold-WhereBlock Mentions Mentions Mentions where_statement_at elsewhere_at where_block_at
+
+abbrev pub where_statement_mentions : WhereStatement → Mentions
+where_statement_mentions = fold-WhereStatement Mentions Mentions Mentions where_statement_at elsewhere_at where_block_at
+
+abbrev pub elsewhere_mentions : ElseWhere → Mentions
+elsewhere_mentions = fold-ElseWhere Mentions Mentions Mentions where_statement_at elsewhere_at where_block_at
 
 abbrev pub branch_at : Branch-F Mentions Mentions Mentions Mentions → Mentions
 branch_at b = mentions_on b.line.0 (names_of b.condition) ++ together b.body

@@ -6,10 +6,14 @@
 #![tactic(auto)]
 
 mod laws;
+mod meaning;
+mod mention;
 mod sense;
 
 pub use laws::{
     each_declared_once, expressions_as_written, first_is_least, host_is_declared,
     listed_are_broken, statements_as_written,
 };
+pub use meaning::{Meaning, Offer, Share};
+pub use mention::Mention;
 pub use sense::Sense;

@@ -5,9 +5,8 @@ use Rattle.a95_base.specs.declared.scalar.Scalar.TheVariants as scalar
 use Rattle.f95_tree.specs.Forms.{Word}
 use Rattle.f95_tree.specs.declared.terminal.Operator.TheVariants as operator
 use Rattle.f95_tree.specs.declared.declaration.Intent.TheVariants as intent
-use Rattle.names_types.specs.Plain.{Expr, Literal, Named, Constructor, Binary, Whole, Applied, Items, no_item, plain, keyword}
-use Rattle.names_types.specs.Plain.{Values, no_value, value, TypeSpec, Dim, Attribute, Intended, Entity, Declaration, Use, Mention}
-use Rattle.names_types.specs.Plain.{Part, Procedure, Host, Module, Source}
+use Rattle.names_types.specs.declared.mention.Mention.{Mention}
+use Rattle.names_types.specs.Plain.{Expr, Literal, Named, Constructor, Binary, Whole, Applied, Items, no_item, plain, keyword, Values, no_value, value, TypeSpec, Dim, Attribute, Intended, Entity, Declaration, Use, Part, Procedure, Host, Module, Source}
 
 -- ---- expressions
 

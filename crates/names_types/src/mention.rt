@@ -1,0 +1,9 @@
+//! A name that the statement on a line names.
+
+use a95_base::Bytes;
+
+#[derive(Drop)]
+pub struct Mention {
+    pub line: u32,
+    pub name: Bytes,
+}
