@@ -1,7 +1,7 @@
 -- Entries that tell the first place of each name, with one name more.
-use Rattle.std.proofs.Common.{◌≡◌, ℕ, ◌+◌, Bool, true, false, cond, List, [], ◌∷◌, ◌++◌, length, Option, Some, None, refl, sym, ap, subst, ◌∙◌, arith}
+use Rattle.std.proofs.Common.{◌≡◌, ℕ, ◌+◌, Bool, true, false, cond, ◌||◌, List, [], ◌∷◌, ◌++◌, length, Option, Some, None, refl, sym, ap, subst, ◌∙◌, arith}
 use Rattle.std.specs.Option.{is_some}
-use Rattle.std.specs.List.{position_from}
+use Rattle.std.specs.List.{position_from, list_any}
 use Rattle.std.specs.Prelude.{nat_eq}
 use Rattle.std.specs.Cmp.Lexicographic.{pointwise}
 use Rattle.std.specs.Map.{lookup}
@@ -33,6 +33,19 @@ position_end test i (x ∷ xs) y =
     ap (λ o. cond (test x) (Some i) o) (position_end test (i + 1) xs y
     ∙ ap (λ n. first_some (position_from test (i + 1) xs) (cond (test y) (Some n) None)) e)
     ∙ first_by (test x) i (position_from test (i + 1) xs) (cond (test y) (Some (i + length (x ∷ xs))) None)
+
+any_place : {A : Type 0} (test : A → Bool) (i : ℕ) (xs : List A) → is_some (position_from test i xs) ≡ list_any test xs
+any_place test i [] = refl
+any_place test i (x ∷ xs) = by (test x) (any_place test (i + 1) xs)
+  where
+    by : (b : Bool) → is_some (position_from test (i + 1) xs) ≡ list_any test xs
+        → is_some (cond b (Some i) (position_from test (i + 1) xs)) ≡ (b || list_any test xs)
+    by true e = refl
+    by false e = e
+
+-- a name stands somewhere
+pub found_is_any : (name : List ℕ) (names : List (List ℕ)) → is_some (first_place name names) ≡ list_any (pointwise nat_eq name) names
+found_is_any name names = any_place (pointwise nat_eq name) 0 names
 
 -- a new name
 held_new : {K : Type 0} (word : K → List ℕ) (es : List (K × ℕ)) (names : List (List ℕ)) (k : K)

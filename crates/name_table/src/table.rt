@@ -1,5 +1,7 @@
 //! The names of a scope: a list, and a map from each name to its first place.
-ghost use Rattle.std.specs.Prelude.{◌≡◌, [], ◌∷◌, ◌++◌, length, slice_get, OnOk, OnErr, option_map};
+ghost use Rattle.std.specs.Prelude.{◌≡◌, [], ◌∷◌, ◌++◌, length, nat_eq, slice_get, OnOk, OnErr, option_map};
+ghost use Rattle.std.specs.List.{list_any};
+ghost use Rattle.std.specs.Cmp.Lexicographic.{pointwise};
 ghost use Rattle.name_table.specs.Places.{first_place, IsHeld, word_of};
 
 use a95_base::Bytes;
@@ -57,6 +59,14 @@ impl NameTable {
         ensures { result ≡ first_place name.now self.now }
     {
         self.places.get(name).copied()
+    }
+
+    /// Whether the name stands there.
+    #[tactic(auto, using(crate::proofs::Held::found_is_any))]
+    pub fn contains(&self, name: &[u8]) -> bool
+        ensures { result ≡ list_any (pointwise nat_eq name.now) self.now }
+    {
+        self.first_place(name).is_some()
     }
 
     /// One more name, behind the others. Where memory is wanting the names stay as they are.
