@@ -1,6 +1,6 @@
 //! What is known of an expression before a run.
 
-use a95_base::{Bytes, Kind, Scalar};
+use a95_base::{Kind, Scalar, SharedBytes};
 
 /// The type, and the length of a text where it is known.
 #[derive(Clone, Copy)]
@@ -29,7 +29,7 @@ pub struct Valued {
 /// An argument of a reference: its keyword, the name where it is a name alone, and what it is.
 #[derive(Drop)]
 pub struct Argument {
-    pub keyword: Option<Bytes>,
-    pub bare: Option<Bytes>,
+    pub keyword: Option<SharedBytes>,
+    pub bare: Option<SharedBytes>,
     pub valued: Option<Valued>,
 }

@@ -8,7 +8,7 @@ ghost use Rattle.intrinsic_table.specs.TableLaws.{argument_count};
 ghost use Rattle.names_types.specs.Keywords.{keyword_place};
 ghost use Rattle.names_types.specs.Constants.{argument_place, placed_from, is_filled, have_own_places, keywords_last, needed_are_filled, arranged};
 
-use a95_base::Bytes;
+use a95_base::SharedBytes;
 use constant_operators::Argument;
 use elemental_values::copy_argument;
 use intrinsic_table::{Intrinsic, is_needed};
@@ -60,7 +60,7 @@ fn has_place(which: Intrinsic, place: usize) -> bool
 }
 
 /// The place of the argument that stands behind so many others.
-fn argument_place(which: Intrinsic, next: usize, keyword: &Option<Bytes>) -> Option<usize>
+fn argument_place(which: Intrinsic, next: usize, keyword: &Option<SharedBytes>) -> Option<usize>
     ensures { result ≡ argument_place which next keyword.now }
 {
     match keyword {

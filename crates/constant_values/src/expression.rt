@@ -7,7 +7,7 @@ ghost use Rattle.names_types.specs.View.{scalar_of, expr_of, reference_of, item_
 
 use crate::arguments::{arranged, is_filled};
 use crate::senses::Senses;
-use a95_base::{Bytes, Scalar};
+use a95_base::{Bytes, Scalar, SharedBytes};
 use constant_operators::{Argument, Valued, Worth, an_integer, binary, literal, signed};
 use elemental_values::elemental_call;
 use f95_tree::{Expression, Item, Literal, Reference};
@@ -20,28 +20,28 @@ fn scalar_of(alloc: Global, l: &Literal) -> Result<Scalar, AllocError>
 {
     match l {
         Literal::Number(z) => Ok(Scalar::Int(*z)),
-        Literal::Text(bytes) => Ok(Scalar::Text(bytes.copy(alloc)?)),
+        Literal::Text(bytes) => Ok(Scalar::Text(Bytes::from_slice(alloc, bytes.as_slice())?)),
         Literal::Logical(b) => Ok(Scalar::Log(*b)),
     }
 }
 
-fn bare_reference(alloc: Global, r: &Reference) -> Result<Option<Bytes>, AllocError>
+fn bare_reference(r: &Reference) -> Result<Option<SharedBytes>, AllocError>
     ensures { IfOk result (λ n. n ≡ bare_reference (reference_of r.now)) }
 {
     match r {
-        Reference::Whole(name) => Ok(Some(name.copy(alloc)?)),
+        Reference::Whole(name) => Ok(Some(name.share()?)),
         Reference::Items(..) => Ok(None),
         Reference::Substring(..) => Ok(None),
     }
 }
 
 /// The name of an argument that is a name alone.
-fn bare_name(alloc: Global, e: &Expression) -> Result<Option<Bytes>, AllocError>
+fn bare_name(e: &Expression) -> Result<Option<SharedBytes>, AllocError>
     ensures { IfOk result (λ n. n ≡ bare_name (expr_of e.now)) }
 {
     match e {
         Expression::Literal(_) => Ok(None),
-        Expression::Reference(r) => bare_reference(alloc, r),
+        Expression::Reference(r) => bare_reference(r),
         Expression::Bracketed(_) => Ok(None),
         Expression::Constructor(_) => Ok(None),
         Expression::Signed(..) => Ok(None),
@@ -49,7 +49,7 @@ fn bare_name(alloc: Global, e: &Expression) -> Result<Option<Bytes>, AllocError>
     }
 }
 
-fn bare_first(placed: &[(usize, Argument)]) -> Option<&Bytes>
+fn bare_first(placed: &[(usize, Argument)]) -> Option<&SharedBytes>
     ensures { option_map (λ n. n.now) result ≡ bare_at 0 placed.now }
 {
     for argument in placed {
@@ -217,7 +217,7 @@ fn valued_reference<S: Senses>(
         }
         Reference::Items(name, items) => {
             let sense = senses.sense(alloc, name)?;
-            let arguments = arguments(alloc, senses, items.as_slice())?;
+            let arguments = arguments(alloc, senses, items.get().as_slice())?;
             called_by(alloc, senses, &sense, arguments.as_slice())
         }
         Reference::Substring(..) => Ok(None),
@@ -246,7 +246,7 @@ fn argument<S: Senses>(alloc: Global, senses: &S, item: &Item) -> Result<Argumen
 {
     match item {
         Item::Plain(e) => {
-            let bare = bare_name(alloc, e)?;
+            let bare = bare_name(e)?;
             let valued = valued(alloc, senses, e)?;
             Ok(Argument {
                 keyword: None,
@@ -255,10 +255,10 @@ fn argument<S: Senses>(alloc: Global, senses: &S, item: &Item) -> Result<Argumen
             })
         }
         Item::Keyword(word, e) => {
-            let bare = bare_name(alloc, e)?;
+            let bare = bare_name(e)?;
             let valued = valued(alloc, senses, e)?;
             Ok(Argument {
-                keyword: Some(word.copy(alloc)?),
+                keyword: Some(word.share()?),
                 bare,
                 valued,
             })

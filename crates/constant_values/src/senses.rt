@@ -3,7 +3,7 @@ ghost use Rattle.std.specs.Prelude.{◌≡◌, IfOk};
 ghost use Rattle.f95_tree.specs.Forms.{Word};
 ghost use Rattle.names_types.specs.declared.sense.Sense.{Sense};
 
-use a95_base::Bytes;
+use a95_base::SharedBytes;
 use names_types::Sense;
 use std::alloc::{AllocError, Global};
 
@@ -11,6 +11,6 @@ use std::alloc::{AllocError, Global};
 pub trait Senses {
     ghost meant: { Self → Word → Sense };
 
-    fn sense(&self, alloc: Global, name: &Bytes) -> Result<Sense, AllocError>
+    fn sense(&self, alloc: Global, name: &SharedBytes) -> Result<Sense, AllocError>
         ensures { IfOk result (λ s. s ≡ meant self.now name.now) };
 }

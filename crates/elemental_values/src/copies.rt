@@ -1,7 +1,7 @@
 //! Copies of what is known before a run.
 ghost use Rattle.std.specs.Prelude.{◌≡◌, IfOk};
 
-use a95_base::{Bytes, Scalar};
+use a95_base::{Scalar, SharedBytes};
 use constant_operators::{Argument, Valued, Worth};
 use std::alloc::{AllocError, Global};
 
@@ -43,20 +43,20 @@ fn copy_maybe_valued(alloc: Global, valued: &Option<Valued>) -> Result<Option<Va
     }
 }
 
-pub fn copy_word(alloc: Global, word: &Option<Bytes>) -> Result<Option<Bytes>, AllocError>
+fn share_word(word: &Option<SharedBytes>) -> Result<Option<SharedBytes>, AllocError>
     ensures { IfOk result (λ w. w ≡ word.now) }
 {
     match word {
         None => Ok(None),
-        Some(word) => Ok(Some(word.copy(alloc)?)),
+        Some(word) => Ok(Some(word.share()?)),
     }
 }
 
 pub fn copy_argument(alloc: Global, argument: &Argument) -> Result<Argument, AllocError>
     ensures { IfOk result (λ a. a ≡ argument.now) }
 {
-    let keyword = copy_word(alloc, &argument.keyword)?;
-    let bare = copy_word(alloc, &argument.bare)?;
+    let keyword = share_word(&argument.keyword)?;
+    let bare = share_word(&argument.bare)?;
     let valued = copy_maybe_valued(alloc, &argument.valued)?;
     Ok(Argument {
         keyword,

@@ -1,6 +1,6 @@
 //! What names mean in a scope, and what a module has for USE.
 
-use a95_base::Bytes;
+use a95_base::SharedBytes;
 use constant_operators::Valued;
 use sqlite_items::Items;
 
@@ -17,7 +17,7 @@ pub enum Meaning {
 /// A name that a module has for USE: the module that has it as its own, by its place in the file, and what the name means.
 #[derive(Drop)]
 pub struct Share {
-    pub name: Bytes,
+    pub name: SharedBytes,
     pub place: usize,
     pub meaning: Meaning,
 }
@@ -25,6 +25,6 @@ pub struct Share {
 /// What the module of this name has for USE.
 #[derive(Drop)]
 pub struct Offer {
-    pub name: Bytes,
+    pub name: SharedBytes,
     pub shares: Items<Share>,
 }

@@ -1,9 +1,9 @@
 //! A name that the statement on a line names.
 
-use a95_base::Bytes;
+use a95_base::SharedBytes;
 
 #[derive(Drop)]
 pub struct Mention {
     pub line: u32,
-    pub name: Bytes,
+    pub name: SharedBytes,
 }

@@ -6,7 +6,7 @@ ghost use Rattle.names_types.specs.View.{use_of};
 ghost use Rattle.scope_entries.specs.View.{entries_of, all_brought};
 
 use crate::entry::{Entry, Form};
-use a95_base::{Bytes, Line};
+use a95_base::{Line, SharedBytes};
 use indexmap::IndexSet;
 use name_table::NameTable;
 use names_types::{Offer, Share};
@@ -21,7 +21,7 @@ pub struct Brought<'a> {
 }
 
 /// What the nearest module of this name above has for USE.
-fn offer_named<'a>(above: &'a [Offer], name: &Bytes) -> Option<&'a Offer>
+fn offer_named<'a>(above: &'a [Offer], name: &SharedBytes) -> Option<&'a Offer>
     ensures { option_map (λ o. o.now) result ≡ offer_named (reverse above.now) name.now }
 {
     let mut left = above.len();
@@ -34,7 +34,7 @@ fn offer_named<'a>(above: &'a [Offer], name: &Bytes) -> Option<&'a Offer>
     None
 }
 
-fn table_of(alloc: Global, listed: &[Bytes]) -> Result<NameTable, AllocError>
+fn table_of(alloc: Global, listed: &[SharedBytes]) -> Result<NameTable, AllocError>
     ensures { IfOk result (λ names. names ≡ listed.now) }
 {
     let mut names = NameTable::new(alloc);
@@ -45,7 +45,10 @@ fn table_of(alloc: Global, listed: &[Bytes]) -> Result<NameTable, AllocError>
 }
 
 /// The names of ONLY.
-fn only_names(alloc: Global, only: &Option<Items<Bytes>>) -> Result<Option<NameTable>, AllocError>
+fn only_names(
+    alloc: Global,
+    only: &Option<Items<SharedBytes>>,
+) -> Result<Option<NameTable>, AllocError>
     ensures { IfOk result (λ names. names ≡ only.now) }
 {
     match only {
@@ -84,7 +87,7 @@ fn add_listed<'a>(
 fn add_used<'a>(
     alloc: Global,
     above: &'a [Offer],
-    used: &'a (Line, Bytes, Option<Items<Bytes>>),
+    used: &'a (Line, SharedBytes, Option<Items<SharedBytes>>),
     brought: &mut Vec<Brought<'a>>,
 ) -> Result<(), AllocError>
     ensures { OnOk result (all_brought brought.new.items ≡ all_brought brought.old.items ++ brought_by (reverse above.now) (use_of used.now)) }
@@ -99,7 +102,7 @@ fn add_used<'a>(
 fn all_used<'a>(
     alloc: Global,
     above: &'a [Offer],
-    uses: &'a [(Line, Bytes, Option<Items<Bytes>>)],
+    uses: &'a [(Line, SharedBytes, Option<Items<SharedBytes>>)],
 ) -> Result<Vec<Brought<'a>>, AllocError>
     ensures { IfOk result (λ bs. all_brought bs.items ≡ flat_map (brought_by (reverse above.now)) (map use_of uses.now)) }
 {
@@ -143,7 +146,7 @@ fn add_all<'a>(brought: &[Brought<'a>], entries: &mut Vec<Entry<'a>>) -> Result<
 pub fn add_brought<'a>(
     alloc: Global,
     above: &'a [Offer],
-    uses: &'a [(Line, Bytes, Option<Items<Bytes>>)],
+    uses: &'a [(Line, SharedBytes, Option<Items<SharedBytes>>)],
     entries: &mut Vec<Entry<'a>>,
 ) -> Result<(), AllocError>
     ensures { OnOk result (entries_of entries.new.items ≡ entries_of entries.old.items ++ brought_once [] (flat_map (brought_by (reverse above.now)) (map use_of uses.now))) }

@@ -1,6 +1,6 @@
 //! A declaration of one name. It refers to where it is written, or to what a module has.
 
-use a95_base::{Bytes, Line};
+use a95_base::{Line, SharedBytes};
 use f95_tree::{Declaration, Entity, TypeSpec};
 use names_types::Share;
 
@@ -20,6 +20,6 @@ pub enum Form<'a> {
 #[derive(Clone, Copy)]
 pub struct Entry<'a> {
     pub line: u32,
-    pub name: &'a Bytes,
+    pub name: &'a SharedBytes,
     pub form: Form<'a>,
 }

@@ -7,7 +7,7 @@ ghost use Rattle.names_types.specs.View.{declaration_of, procedure_of, heading_n
 ghost use Rattle.scope_entries.specs.View.{entries_of};
 
 use crate::entry::{Entry, Form};
-use a95_base::{Bytes, Line};
+use a95_base::{Line, SharedBytes};
 use f95_tree::{Declaration, Heading, Prefix, Subprogram, TypeSpec};
 use std::alloc::AllocError;
 
@@ -42,7 +42,7 @@ pub fn add_declared<'a>(
     Ok(())
 }
 
-fn heading_name(heading: &Heading) -> &Bytes
+fn heading_name(heading: &Heading) -> &SharedBytes
     ensures { result.now ≡ heading_name heading.now }
 {
     match heading {
@@ -80,7 +80,7 @@ fn type_in(prefixes: &[Prefix]) -> Option<&TypeSpec>
 }
 
 /// The name of a function's result.
-pub fn result_name(heading: &Heading) -> Option<&Bytes>
+pub fn result_name(heading: &Heading) -> Option<&SharedBytes>
     ensures { option_map (λ n. n.now) result ≡ option_map (λ (f : Function). f.result) (heading_function None heading.now) }
 {
     match heading {

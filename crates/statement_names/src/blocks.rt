@@ -105,16 +105,16 @@ fn statement_mentions(
     match statement {
         Statement::Action(line, action) => note(alloc, *line, action, mentions),
         Statement::If(line, condition, action) => {
-            note_both(alloc, *line, condition, action, mentions)
+            note_both(alloc, *line, condition.get(), action.get(), mentions)
         }
         Statement::IfBlock(line, _, condition, body, branches, other, _) => {
-            note(alloc, *line, condition, mentions)?;
+            note(alloc, *line, condition.get(), mentions)?;
             statements_mentions(alloc, body.as_slice(), mentions)?;
             branches_mentions(alloc, branches.as_slice(), mentions)?;
             last_mentions(alloc, other, mentions)
         }
         Statement::Select(line, _, selector, cases, _) => {
-            note(alloc, *line, selector, mentions)?;
+            note(alloc, *line, selector.get(), mentions)?;
             cases_mentions(alloc, cases.as_slice(), mentions)
         }
         Statement::Do(line, _, control, body, _) => {

@@ -4,14 +4,14 @@ ghost use Rattle.names_types.specs.Mentions.{mentions_on};
 ghost use Rattle.names_types.specs.View.{assignments_mentions};
 
 use crate::named::Named;
-use a95_base::{Bytes, Line};
+use a95_base::{Line, SharedBytes};
 use f95_tree::Assignment;
 use names_types::Mention;
 use std::alloc::{AllocError, Global};
 
 fn note_names(
     line: Line,
-    names: Vec<Bytes>,
+    names: Vec<SharedBytes>,
     mentions: &mut Vec<Mention>,
 ) -> Result<(), AllocError>
     ensures { OnOk result (mentions.new.items ≡ mentions.old.items ++ mentions_on line.0 names.items) }
@@ -32,7 +32,7 @@ pub fn note<T: Named>(
     ensures { OnOk result (mentions.new.items ≡ mentions.old.items ++ mentions_on line.0 (T.named part.now)) }
 {
     let mut names = Vec::new(alloc);
-    part.add_names(alloc, &mut names)?;
+    part.add_names(&mut names)?;
     note_names(line, names, mentions)
 }
 
@@ -47,8 +47,8 @@ pub fn note_both<T: Named, U: Named>(
     ensures { OnOk result (mentions.new.items ≡ mentions.old.items ++ mentions_on line.0 (T.named first.now ++ U.named second.now)) }
 {
     let mut names = Vec::new(alloc);
-    first.add_names(alloc, &mut names)?;
-    second.add_names(alloc, &mut names)?;
+    first.add_names(&mut names)?;
+    second.add_names(&mut names)?;
     note_names(line, names, mentions)
 }
 

@@ -27,12 +27,12 @@ loop-one-preserved c =
     let key : seen_as (c.in_ok-name.name, one.share.now.place) ≡ key_of one = ap (λ n. (n, one.share.now.place)) named in
     let made = c.insert_full.new.self.keys in
     elim c.if-is_new.branch [
-      then-is_new+in_ok-push w ↦
-        subst (λ (bs : List Brought). Kept made bs rest whole) (sym (ap (λ v. v.items) w.kept-is ∙ w.in_ok-push.ensures.items))
-        (kept_new (c.in_ok-name.name, one.share.now.place) keys made one kept rest whole before key
-        (sym c.in_ok-is_new.ensures.added ∙ w.if-is_new.true) c.in_ok-is_new.ensures.keys)
+      | then-is_new+in_ok-push w ↦
+          subst (λ (bs : List Brought). Kept made bs rest whole) (sym (ap (λ v. v.items) w.kept-is ∙ w.in_ok-push.ensures.items))
+          (kept_new (c.in_ok-name.name, one.share.now.place) keys made one kept rest whole before key
+          (sym c.in_ok-is_new.ensures.added ∙ w.if-is_new.true) c.in_ok-is_new.ensures.keys)
       | else-is_new w ↦
-        subst (λ (bs : List Brought). Kept made bs rest whole) (sym (ap (λ v. v.items) w.kept-is))
-        (kept_again (c.in_ok-name.name, one.share.now.place) keys made one kept rest whole before key
-        (sym c.in_ok-is_new.ensures.added ∙ w.if-is_new.false) c.in_ok-is_new.ensures.keys)
+          subst (λ (bs : List Brought). Kept made bs rest whole) (sym (ap (λ v. v.items) w.kept-is))
+          (kept_again (c.in_ok-name.name, one.share.now.place) keys made one kept rest whole before key
+          (sym c.in_ok-is_new.ensures.added ∙ w.if-is_new.false) c.in_ok-is_new.ensures.keys)
     ]
