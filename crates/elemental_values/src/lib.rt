@@ -4,5 +4,5 @@
 mod copies;
 mod elemental;
 
-pub use copies::{copy_argument, copy_scalar, copy_valued, copy_word};
+pub use copies::{copy_argument, copy_scalar, copy_valued};
 pub use elemental::elemental_call;
