@@ -3,7 +3,7 @@ ghost use Rattle.std.specs.Prelude.{◌≡◌, slice_get, option_map};
 ghost use Rattle.names_types.specs.Scopes.{is_among, meaning_in};
 ghost use Rattle.scope_names.specs.Tables.{meant_in};
 
-use a95_base::Bytes;
+use a95_base::SharedBytes;
 use name_table::NameTable;
 use names_types::Meaning;
 
@@ -16,14 +16,14 @@ pub struct Meanings {
 
 impl Meanings {
     /// Whether the scope has a declaration of this name, be its meaning known or not.
-    pub fn declares(&self, name: &Bytes) -> bool
+    pub fn declares(&self, name: &SharedBytes) -> bool
         ensures { result ≡ is_among self.now.names name.now }
     {
         self.names.contains(name.as_slice())
     }
 
     /// What the first of this name means, where that is known.
-    pub fn get(&self, name: &Bytes) -> Option<&Meaning>
+    pub fn get(&self, name: &SharedBytes) -> Option<&Meaning>
         ensures { option_map (λ m. m.now) result ≡ meaning_in (meant_in self.now) name.now }
     {
         match self.names.first_place(name.as_slice()) {

@@ -5,7 +5,7 @@ ghost use Rattle.names_types.specs.Scopes.{sense_of, intrinsic_sense, host_sense
 ghost use Rattle.scope_names.specs.Tables.{meant_in};
 
 use crate::meanings::Meanings;
-use a95_base::Bytes;
+use a95_base::SharedBytes;
 use constant_values::Senses;
 use elemental_values::copy_valued;
 use intrinsic_table::{Intrinsic, interface};
@@ -31,7 +31,7 @@ fn sense_of(alloc: Global, meaning: Option<&Meaning>) -> Result<Sense, AllocErro
 }
 
 /// An intrinsic, where no declaration hides it.
-fn intrinsic_sense(name: &Bytes) -> Sense
+fn intrinsic_sense(name: &SharedBytes) -> Sense
     ensures { result ≡ intrinsic_sense (intrinsic_named name.now) }
 {
     match intrinsic_named(name.as_slice()) {
@@ -40,7 +40,7 @@ fn intrinsic_sense(name: &Bytes) -> Sense
     }
 }
 
-fn host_sense(alloc: Global, host: &Meanings, name: &Bytes) -> Result<Sense, AllocError>
+fn host_sense(alloc: Global, host: &Meanings, name: &SharedBytes) -> Result<Sense, AllocError>
     ensures { IfOk result (λ s. s ≡ host_sense (meaning_in (meant_in host.now) name.now) name.now) }
 {
     match host.get(name) {
@@ -59,7 +59,7 @@ pub struct ConstantSenses<'a> {
 impl<'a> Senses for ConstantSenses<'a> {
     ghost meant = { λ s. constant_sense s.own.now.names (meant_in s.host.now) (meant_in s.own.now) };
 
-    fn sense(&self, alloc: Global, name: &Bytes) -> Result<Sense, AllocError> {
+    fn sense(&self, alloc: Global, name: &SharedBytes) -> Result<Sense, AllocError> {
         if self.own.declares(name) {
             sense_of(alloc, self.own.get(name))
         } else {
