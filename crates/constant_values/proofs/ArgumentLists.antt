@@ -1,5 +1,6 @@
 -- Arguments, one after the other.
-use Rattle.std.proofs.Common.{◌≡◌, ℕ, suc, ◌+◌, ◌≤◌, Bool, true, false, not, ◌&&◌, ◌||◌, List, [], ◌∷◌, ◌++◌, map, Option, Some, None, refl, sym, ap, ◌∙◌, append_assoc, length, get_or, take, drop, ◌-◌, arith}
+use Rattle.std.proofs.Common.{◌≡◌, ℕ, suc, ◌+◌, ◌≤◌, Bool, true, false, not, ◌&&◌, ◌||◌, List, [], ◌∷◌, ◌++◌, map, Option, Some}
+use Rattle.std.proofs.Common.{None, refl, sym, ap, ◌∙◌, append_assoc, length, get_or, take, drop, ◌-◌, arith}
 use Rattle.std.proofs.lemmas.List.{take_all}
 use Rattle.std.specs.Prelude.{option_map}
 use Rattle.std.specs.List.{list_all}
@@ -70,7 +71,8 @@ keywords_behind_first (a ∷ more) d some e =
 -- ---- items
 
 -- an item adds one argument
-pub argument_next : (sense : Word → Sense) (made : List Argument) (i : Item) (a : Argument) (rest : List Item) (whole : List Argument)
+pub argument_next : (sense : Word → Sense) (made : List Argument) (i : Item) (a : Argument) (rest : List Item)
+    (whole : List Argument)
     → ((more : plain.Items) → arguments sense (item_of i more) ≡ a ∷ arguments sense more)
     → made ++ arguments sense (joined_items (map item_of (i ∷ rest))) ≡ whole
     → (made ++ a ∷ []) ++ arguments sense (joined_items (map item_of rest)) ≡ whole

@@ -1,5 +1,6 @@
 -- The place of a keyword, as the definitions have it and as the table of intrinsics answers it.
-use Rattle.std.proofs.Common.{◌≡◌, ◌≢◌, ℕ, zero, suc, ◌+◌, ◌-◌, ◌<◌, ◌≤◌, ◌*◌, Bool, true, false, ◌&&◌, cond, List, [], ◌∷◌, ◌++◌, length, get_or, fold, Option, Some, None, refl, sym, ap, ◌∙◌, true≢false, arith}
+use Rattle.std.proofs.Common.{◌≡◌, ◌≢◌, ℕ, zero, suc, ◌+◌, ◌-◌, ◌<◌, ◌≤◌, ◌*◌, Bool, true, false, ◌&&◌, cond, List, [], ◌∷◌, ◌++◌}
+use Rattle.std.proofs.Common.{length, get_or, fold, Option, Some, None, refl, sym, ap, ◌∙◌, true≢false, arith}
 use Rattle.std.specs.Prelude.{slice_get, nat_lt, nat_le, decimal, IfSome, IfNone, IsSome, ◌==◌, if◌then◌else◌}
 use Rattle.std.specs.List.{list_all, position_from}
 use Rattle.std.specs.Option.{is_some}
@@ -52,7 +53,11 @@ found w (x ∷ xs) i q e = by (is_word w x) refl e (found w xs (i + 1) q)
         record { behind = omega arith; stands = ap (λ n. slice_get (x ∷ xs) n) here ∙ ap Some (sym word) }
     by false is e next =
         let more = next e in
-        record { behind = omega (arith, more.behind); stands = ap (λ n. slice_get (x ∷ xs) n) (next_place i q more.behind) ∙ more.stands }
+        record {
+          behind = omega (arith, more.behind);
+          stands = ap (λ n. slice_get (x ∷ xs) n) (next_place i q more.behind)
+              ∙ more.stands;
+        }
 
 nowhere : (w : Word) (ws : List Word) (i p : ℕ) → position_from (is_word w) i ws ≡ None → slice_get ws p ≡ Some w → ⊥
 nowhere w [] i p e f = none_some w f
@@ -94,7 +99,8 @@ record Begun (ds : List ℕ) : Type 0 where
 
 begun : (ds : List ℕ) → begins_number ds ≡ true → Begun ds
 begun [] h = absurd (let z : ⊥ = cc in z)
-begun (d ∷ more) h = record { low = let k = both (nat_le 49 d) (nat_le d 57) h in grind (arith, nat_tests, k.0); some = omega arith }
+begun (d ∷ more) h =
+    record { low = let k = both (nat_le 49 d) (nat_le d 57) h in grind (arith, nat_tests, k.0); some = omega arith }
 
 record Numeral (ds : List ℕ) : Type 0 where
   positive : 0 < number_written ds
@@ -139,7 +145,8 @@ numbered_found (letter ∷ ds) p e = by (letter == 97) (is_numeral ds) refl refl
         let same : number_written ds - 1 ≡ p = some_same (number_written ds - 1) p e in
         let next : p + 1 ≡ number_written ds = omega (arith, same, d.positive) in
         let first : 97 ≡ letter = sym ((Decides-eqb letter 97).0 is) in
-        is_numbered p (omega (arith, next, d.small)) ∙ ap Some (ap (λ n. 97 ∷ decimal n) next ∙ ap (λ xs. 97 ∷ xs) d.written ∙ ap (λ c. c ∷ ds) first)
+        is_numbered p (omega (arith, next, d.small)) ∙ ap Some
+        (ap (λ n. 97 ∷ decimal n) next ∙ ap (λ xs. 97 ∷ xs) d.written ∙ ap (λ c. c ∷ ds) first)
     by true false is n e = absurd (none_some p e)
     by false b is n e = absurd (none_some p e)
 
@@ -168,11 +175,13 @@ stands_nowhere : (a : Arguments) (w : Word) (p : ℕ) → keyword_place_in a w �
 stands_nowhere (Takes needed optional) w p e f = nowhere w (needed ++ optional) 0 p e f
 stands_nowhere Numbered w p e f = numbered_nowhere w p e f
 
-place_some : (which : Intrinsic) (w : Word) (p : ℕ) (r : Option ℕ) → keyword_place which w ≡ r → keyword_at which p ≡ Some w → Some p ≡ r
+place_some : (which : Intrinsic) (w : Word) (p : ℕ) (r : Option ℕ) → keyword_place which w ≡ r → keyword_at which p ≡ Some w →
+    Some p ≡ r
 place_some which w p (Some q) e f = ap Some (keywords_differ which p q w f (stands (row_of which).arguments w q e))
 place_some which w p None e f = absurd (stands_nowhere (row_of which).arguments w p e f)
 
-place_none : (which : Intrinsic) (w : Word) (r : Option ℕ) → keyword_place which w ≡ r → ((p : ℕ) → keyword_at which p ≢ Some w) → None ≡ r
+place_none : (which : Intrinsic) (w : Word) (r : Option ℕ) → keyword_place which w ≡ r → ((p : ℕ) → keyword_at which p ≢ Some w) →
+    None ≡ r
 place_none which w (Some q) e h = absurd (h q (stands (row_of which).arguments w q e))
 place_none which w None e h = refl
 

@@ -6,7 +6,8 @@ ghost use Rattle.constant_operators.specs.declared.value.Argument.{Argument};
 ghost use Rattle.intrinsic_table.specs.Interface.{keyword_at, is_needed};
 ghost use Rattle.intrinsic_table.specs.TableLaws.{argument_count};
 ghost use Rattle.names_types.specs.Keywords.{keyword_place};
-ghost use Rattle.names_types.specs.Constants.{argument_place, placed_from, is_filled, have_own_places, keywords_last, needed_are_filled, arranged};
+ghost use Rattle.names_types.specs.Constants.{argument_place, placed_from, is_filled, have_own_places, keywords_last};
+ghost use Rattle.names_types.specs.Constants.{needed_are_filled, arranged};
 
 use a95_base::SharedBytes;
 use constant_operators::Argument;

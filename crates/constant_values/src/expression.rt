@@ -1,6 +1,7 @@
 //! What an expression is before a run.
 ghost use Rattle.std.specs.Prelude.{◌≡◌, ◌∷◌, ◌&&◌, map, IfOk, option_map};
-ghost use Rattle.names_types.specs.Constants.{valued, valued_reference, arguments, bare_reference, bare_name, bare_at, is_array_name, is_array_sense, is_filled, inquiry_call, call_of, named_by, called_by};
+ghost use Rattle.names_types.specs.Constants.{valued, valued_reference, arguments, bare_reference, bare_name, bare_at};
+ghost use Rattle.names_types.specs.Constants.{is_array_name, is_array_sense, is_filled, inquiry_call, call_of, named_by, called_by};
 ghost use Rattle.names_types.specs.declared.sense.Sense.TheVariants.{NamesIntrinsic};
 ghost use Rattle.names_types.specs.Plain.{Items};
 ghost use Rattle.names_types.specs.View.{scalar_of, expr_of, reference_of, item_of, joined_items};
@@ -172,7 +173,8 @@ fn named_by(sense: Sense) -> Option<Valued>
     }
 }
 
-/// What an expression is, where it is built of literals, names that may stand there, operators, elemental functions, and bounds that
+/// What an expression is, where it is built of literals, names that may stand there, operators, elemental functions, and bounds
+/// that
 /// may be asked for, and the kinds fit.
 #[cycle(valued)]
 pub fn valued<S: Senses>(
@@ -242,7 +244,8 @@ fn arguments<S: Senses>(
 
 #[cycle(valued)]
 fn argument<S: Senses>(alloc: Global, senses: &S, item: &Item) -> Result<Argument, AllocError>
-    ensures { IfOk result (λ a. (more : Items) → arguments (S.meant senses.now) (item_of item.now more) ≡ a ∷ arguments (S.meant senses.now) more) }
+    ensures { IfOk result
+        (λ a. (more : Items) → arguments (S.meant senses.now) (item_of item.now more) ≡ a ∷ arguments (S.meant senses.now) more) }
 {
     match item {
         Item::Plain(e) => {

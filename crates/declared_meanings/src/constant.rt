@@ -6,7 +6,8 @@ ghost use Rattle.constant_operators.specs.declared.value.Worth.TheVariants.{Is, 
 ghost use Rattle.constant_operators.specs.Operators.{facts_of, valued_as, text_of, then_option};
 ghost use Rattle.names_types.specs.Plain.{Character, Number};
 ghost use Rattle.names_types.specs.Constants.{valued};
-ghost use Rattle.names_types.specs.Scopes.{kind_of, worth_in, length_within, declared_length, text_length, constant_length, stored, stored_worth, constant_from};
+ghost use Rattle.names_types.specs.Scopes.{kind_of, worth_in, length_within, declared_length, text_length, constant_length, stored};
+ghost use Rattle.names_types.specs.Scopes.{stored_worth, constant_from};
 ghost use Rattle.names_types.specs.View.{expr_of, type_of};
 
 use a95_base::{Kind, Scalar, fit};
@@ -217,7 +218,9 @@ pub fn constant_value<S: Senses>(
     of: &TypeSpec,
     initial: &Option<Expression>,
 ) -> Result<Valued, AllocError>
-    ensures { IfOk result (λ v. v ≡ constant_from (type_of of.now) (declared_length (S.meant senses.now) (type_of of.now)) (then_option (option_map expr_of initial.now) (valued (S.meant senses.now)))) }
+    ensures { IfOk result
+        (λ v. v ≡ constant_from (type_of of.now) (declared_length (S.meant senses.now) (type_of of.now))
+        (then_option (option_map expr_of initial.now) (valued (S.meant senses.now)))) }
 {
     let length = declared_length(alloc, senses, of)?;
     let value = initial_value(alloc, senses, initial)?;

@@ -34,5 +34,7 @@ negative_integer (pos n) f =
 negative_integer (negsuc n) f = f
 
 -- the negative of an absolute value is an INTEGER
-pub negative_within : (x : ℤ) → FitsSigned w32 x → Is (scalar.Int (neg_ℤ (pos (unsigned_abs x)))) ≡ within (neg_ℤ (pos (unsigned_abs x)))
-negative_within x f = sym ((known_within (neg_ℤ (pos (unsigned_abs x)))).1 (fits_integer (neg_ℤ (pos (unsigned_abs x))) (negative_integer x f)))
+pub negative_within : (x : ℤ) → FitsSigned w32 x → Is (scalar.Int (neg_ℤ (pos (unsigned_abs x))))
+    ≡ within (neg_ℤ (pos (unsigned_abs x)))
+negative_within x f =
+    sym ((known_within (neg_ℤ (pos (unsigned_abs x)))).1 (fits_integer (neg_ℤ (pos (unsigned_abs x))) (negative_integer x f)))

@@ -1,5 +1,6 @@
 //! The elemental functions on scalars that are known.
-ghost use Rattle.std.specs.Prelude.{◌≡◌, ◌∷◌, [], ◌&&◌, not, pos, neg_ℤ, unsigned_abs, int_le, Some, IfOk, option_map, if◌then◌else◌};
+ghost use Rattle.std.specs.Prelude.{◌≡◌, ◌∷◌, [], ◌&&◌, not, pos, neg_ℤ, unsigned_abs, int_le, Some, IfOk, option_map};
+ghost use Rattle.std.specs.Prelude.{if◌then◌else◌};
 ghost use Rattle.std.specs.List.{filter_map, list_any, list_all};
 ghost use Rattle.std.specs.Option.{is_some};
 ghost use Rattle.a95_base.specs.Integer.{greater_of, lesser_of};
@@ -9,7 +10,9 @@ ghost use Rattle.a95_base.specs.declared.scalar.Scalar.TheVariants as scalar;
 ghost use Rattle.intrinsic_table.specs.declared.intrinsic.Intrinsic.TheVariants as intrinsic;
 ghost use Rattle.constant_operators.specs.declared.value.Worth.TheVariants.{Is};
 ghost use Rattle.constant_operators.specs.Operators.{is_kind, within, only_if};
-ghost use Rattle.names_types.specs.Constants.{Seen, all_seen, all_of_kind, seen_facts, is_length, merged_facts, elemental_facts, given_at, given_in, integer_at, text_at, truth_of, best, elemental_value, elemental_worth, elemental_call, is_spoilt, scalar_in, text_or_spoilt};
+ghost use Rattle.names_types.specs.Constants.{Seen, all_seen, all_of_kind, seen_facts, is_length, merged_facts, elemental_facts};
+ghost use Rattle.names_types.specs.Constants.{given_at, given_in, integer_at, text_at, truth_of, best, elemental_value};
+ghost use Rattle.names_types.specs.Constants.{elemental_worth, elemental_call, is_spoilt, scalar_in, text_or_spoilt};
 
 use crate::copies::{copy_scalar, copy_valued};
 use a95_base::{Kind, Scalar, modulo, remainder};

@@ -1,5 +1,6 @@
 -- Entries that tell the first place of each name, with one name more.
-use Rattle.std.proofs.Common.{◌≡◌, ℕ, ◌+◌, Bool, true, false, cond, ◌||◌, List, [], ◌∷◌, ◌++◌, length, Option, Some, None, refl, sym, ap, subst, ◌∙◌, arith}
+use Rattle.std.proofs.Common.{◌≡◌, ℕ, ◌+◌, Bool, true, false, cond, ◌||◌, List, [], ◌∷◌, ◌++◌, length, Option, Some, None, refl}
+use Rattle.std.proofs.Common.{sym, ap, subst, ◌∙◌, arith}
 use Rattle.std.specs.Option.{is_some}
 use Rattle.std.specs.List.{position_from, list_any}
 use Rattle.std.specs.Prelude.{nat_eq}
@@ -23,7 +24,8 @@ lookup_end : {K : Type 0} (test : K → Bool) (es : List (K × ℕ)) (k : K) (p 
     → lookup test (es ++ (k, p) ∷ []) ≡ first_some (lookup test es) (cond (test k) (Some p) None)
 lookup_end test [] k p = refl
 lookup_end test (e ∷ es) k p =
-    ap (λ o. cond (test e.0) (Some e.1) o) (lookup_end test es k p) ∙ first_by (test e.0) e.1 (lookup test es) (cond (test k) (Some p) None)
+    ap (λ o. cond (test e.0) (Some e.1) o) (lookup_end test es k p)
+    ∙ first_by (test e.0) e.1 (lookup test es) (cond (test k) (Some p) None)
 
 position_end : {A : Type 0} (test : A → Bool) (i : ℕ) (xs : List A) (y : A)
     → position_from test i (xs ++ y ∷ []) ≡ first_some (position_from test i xs) (cond (test y) (Some (i + length xs)) None)
@@ -44,7 +46,8 @@ any_place test i (x ∷ xs) = by (test x) (any_place test (i + 1) xs)
     by false e = e
 
 -- a name stands somewhere
-pub found_is_any : (name : List ℕ) (names : List (List ℕ)) → is_some (first_place name names) ≡ list_any (pointwise nat_eq name) names
+pub found_is_any : (name : List ℕ) (names : List (List ℕ)) → is_some (first_place name names)
+    ≡ list_any (pointwise nat_eq name) names
 found_is_any name names = any_place (pointwise nat_eq name) 0 names
 
 -- a new name
@@ -59,7 +62,8 @@ held_new word es names k h name =
 
 pub held_inserted : {K S : Type 0} (word : K → List ℕ) (m : IndexMap K ℕ S) (made : List (K × ℕ)) (names : List (List ℕ)) (k : K)
     (name : List ℕ) → IsHeld word m.entries names → lookup (λ j. pointwise nat_eq name (word j)) m.entries ≡ None → word k ≡ name
-    → made ≡ insert_entry (λ i j. pointwise nat_eq (word i) (word j)) m.entries k (length names) → IsHeld word made (names ++ name ∷ [])
+    → made ≡ insert_entry (λ i j. pointwise nat_eq (word i) (word j)) m.entries k (length names) →
+    IsHeld word made (names ++ name ∷ [])
 held_inserted word m made names k name h none is e =
     let absent : lookup (λ j. pointwise nat_eq (word k) (word j)) m.entries ≡ None =
     ap (λ n. lookup (λ j. pointwise nat_eq n (word j)) m.entries) is ∙ none in

@@ -1,5 +1,6 @@
 -- What is brought again, by the names and the modules that were seen.
-use Rattle.std.proofs.Common.{◌≡◌, ℕ, Bool, true, false, not, ◌&&◌, ◌||◌, ◌==◌, List, [], ◌∷◌, ◌++◌, map, refl, sym, ap, ◌∙◌, append_assoc, arith}
+use Rattle.std.proofs.Common.{◌≡◌, ℕ, Bool, true, false, not, ◌&&◌, ◌||◌, ◌==◌, List, [], ◌∷◌, ◌++◌, map, refl, sym, ap, ◌∙◌}
+use Rattle.std.proofs.Common.{append_assoc, arith}
 use Rattle.std.specs.Prelude.{nat_eq, if◌then◌else◌}
 use Rattle.std.specs.List.{list_any}
 use Rattle.std.specs.Cmp.Lexicographic.{pointwise}
@@ -70,7 +71,8 @@ module _ (kept : List Brought) (b : Brought) (rest : List Brought) (whole : List
   once_new new e =
       let more : all_brought (kept ++ b ∷ []) ≡ all_brought kept ++ brought_entry b ∷ [] = map-append brought_entry kept (b ∷ []) in
       ap (λ xs. xs ++ brought_once xs (all_brought rest)) more
-      ∙ (append_assoc (all_brought kept) (brought_entry b ∷ []) (brought_once (all_brought kept ++ brought_entry b ∷ []) (all_brought rest))
+      ∙ (append_assoc (all_brought kept) (brought_entry b ∷ [])
+      (brought_once (all_brought kept ++ brought_entry b ∷ []) (all_brought rest))
       ∙ (ap (λ t. all_brought kept ++ (if t then brought_once (all_brought kept) (all_brought rest)
       else brought_entry b ∷ brought_once (all_brought kept ++ brought_entry b ∷ []) (all_brought rest))) (sym new) ∙ e))
 
@@ -88,7 +90,8 @@ pub record Kept {Z : Type 0} (keys : List (Vec ℕ Z × ℕ)) (kept rest : List 
   pub same : all_brought kept ++ brought_once (all_brought kept) (all_brought rest) ≡ whole
   pub seen : map seen_as keys ≡ map key_of kept
 
-module _ {Z : Type 0} (k : Vec ℕ Z × ℕ) (keys made : List (Vec ℕ Z × ℕ)) (b : Brought) (kept rest : List Brought) (whole : List Entry)
+module _ {Z : Type 0} (k : Vec ℕ Z × ℕ) (keys made : List (Vec ℕ Z × ℕ)) (b : Brought) (kept rest : List Brought)
+    (whole : List Entry)
     (before : Kept keys kept (b ∷ rest) whole) (is : seen_as k ≡ key_of b) where
   abbrev stands : Bool
   stands = list_any (λ (j : Vec ℕ Z × ℕ). pointwise nat_eq k.0.items j.0.items && (k.1 == j.1)) keys
@@ -96,7 +99,8 @@ module _ {Z : Type 0} (k : Vec ℕ Z × ℕ) (keys made : List (Vec ℕ Z × ℕ
   pub kept_new : not stands ≡ true → made ≡ (if stands then keys else keys ++ k ∷ []) → Kept made (kept ++ b ∷ []) rest whole
   kept_new new e =
       let absent : stands ≡ false = not_true stands new in
-      let fresh : is_again (all_brought kept) (brought_entry b) ≡ false = sym (seen_is_again k keys b kept before.seen is) ∙ absent in
+      let fresh : is_again (all_brought kept) (brought_entry b) ≡ false = sym (seen_is_again k keys b kept before.seen is)
+      ∙ absent in
       let more : made ≡ keys ++ k ∷ [] = e ∙ ap (λ t. if t then keys else keys ++ k ∷ []) absent in
       record {
         same = once_new kept b rest whole fresh before.same;
@@ -106,7 +110,8 @@ module _ {Z : Type 0} (k : Vec ℕ Z × ℕ) (keys made : List (Vec ℕ Z × ℕ
   pub kept_again : not stands ≡ false → made ≡ (if stands then keys else keys ++ k ∷ []) → Kept made kept rest whole
   kept_again old e =
       let present : stands ≡ true = not_false stands old in
-      let again : is_again (all_brought kept) (brought_entry b) ≡ true = sym (seen_is_again k keys b kept before.seen is) ∙ present in
+      let again : is_again (all_brought kept) (brought_entry b) ≡ true = sym (seen_is_again k keys b kept before.seen is)
+      ∙ present in
       let none : made ≡ keys = e ∙ ap (λ t. if t then keys else keys ++ k ∷ []) present in
       record {
         same = once_again kept b rest whole again before.same;

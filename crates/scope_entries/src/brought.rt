@@ -73,7 +73,9 @@ fn add_listed<'a>(
     shares: &'a [Share],
     brought: &mut Vec<Brought<'a>>,
 ) -> Result<(), AllocError>
-    ensures { OnOk result (all_brought brought.new.items ≡ all_brought brought.old.items ++ map (share_entry line) (filter (listed_in only.now) shares.now)) }
+    ensures { OnOk result
+        (all_brought brought.new.items ≡ all_brought brought.old.items
+        ++ map (share_entry line) (filter (listed_in only.now) shares.now)) }
 {
     for share in shares {
         if listed_in(only, share) {
@@ -90,7 +92,8 @@ fn add_used<'a>(
     used: &'a (Line, SharedBytes, Option<Items<SharedBytes>>),
     brought: &mut Vec<Brought<'a>>,
 ) -> Result<(), AllocError>
-    ensures { OnOk result (all_brought brought.new.items ≡ all_brought brought.old.items ++ brought_by (reverse above.now) (use_of used.now)) }
+    ensures { OnOk result
+        (all_brought brought.new.items ≡ all_brought brought.old.items ++ brought_by (reverse above.now) (use_of used.now)) }
 {
     let Some(offer) = offer_named(above, &used.1) else {
         return Ok(());
@@ -149,7 +152,9 @@ pub fn add_brought<'a>(
     uses: &'a [(Line, SharedBytes, Option<Items<SharedBytes>>)],
     entries: &mut Vec<Entry<'a>>,
 ) -> Result<(), AllocError>
-    ensures { OnOk result (entries_of entries.new.items ≡ entries_of entries.old.items ++ brought_once [] (flat_map (brought_by (reverse above.now)) (map use_of uses.now))) }
+    ensures { OnOk result
+        (entries_of entries.new.items ≡ entries_of entries.old.items
+        ++ brought_once [] (flat_map (brought_by (reverse above.now)) (map use_of uses.now))) }
 {
     let used = all_used(alloc, above, uses)?;
     let kept = once(alloc, used.as_slice())?;

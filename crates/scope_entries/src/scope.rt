@@ -30,7 +30,8 @@ fn add_heading<'a>(place: Place<'a>, entries: &mut Vec<Entry<'a>>) -> Result<(),
     }
 }
 
-/// The declarations of a scope in the order of the text, where these modules end above it, the nearest last. Neither its host nor its
+/// The declarations of a scope in the order of the text, where these modules end above it, the nearest last. Neither its host nor
+/// its
 /// statements declare a name in it.
 pub fn entries<'a>(
     alloc: Global,
@@ -39,7 +40,9 @@ pub fn entries<'a>(
     section: &'a Section,
     procedures: &'a [Subprogram],
 ) -> Result<Vec<Entry<'a>>, AllocError>
-    ensures { IfOk result (λ es. entries_of es.items ≡ entries (scope (reverse above.now) [] (place_of place.entry) (part_of section.now []) (map procedure_of procedures.now))) }
+    ensures { IfOk result
+        (λ es. entries_of es.items
+        ≡ entries (scope (reverse above.now) [] (place_of place.entry) (part_of section.now []) (map procedure_of procedures.now))) }
 {
     let mut entries = Vec::new(alloc);
     add_heading(place, &mut entries)?;

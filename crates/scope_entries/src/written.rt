@@ -16,7 +16,8 @@ fn add_entities<'a>(
     declaration: &'a (Line, Declaration),
     entries: &mut Vec<Entry<'a>>,
 ) -> Result<(), AllocError>
-    ensures { OnOk result (entries_of entries.new.items ≡ entries_of entries.old.items ++ declared_by (declaration_of declaration.now)) }
+    ensures { OnOk result
+        (entries_of entries.new.items ≡ entries_of entries.old.items ++ declared_by (declaration_of declaration.now)) }
 {
     let line = declaration.0.0;
     for entity in declaration.1.entities.as_slice() {
@@ -34,7 +35,8 @@ pub fn add_declared<'a>(
     declarations: &'a [(Line, Declaration)],
     entries: &mut Vec<Entry<'a>>,
 ) -> Result<(), AllocError>
-    ensures { OnOk result (entries_of entries.new.items ≡ entries_of entries.old.items ++ flat_map declared_by (map declaration_of declarations.now)) }
+    ensures { OnOk result
+        (entries_of entries.new.items ≡ entries_of entries.old.items ++ flat_map declared_by (map declaration_of declarations.now)) }
 {
     for declaration in declarations {
         add_entities(declaration, entries)?;
@@ -56,7 +58,8 @@ pub fn add_begun<'a>(
     procedures: &'a [Subprogram],
     entries: &mut Vec<Entry<'a>>,
 ) -> Result<(), AllocError>
-    ensures { OnOk result (entries_of entries.new.items ≡ entries_of entries.old.items ++ map begun_by (map procedure_of procedures.now)) }
+    ensures { OnOk result
+        (entries_of entries.new.items ≡ entries_of entries.old.items ++ map begun_by (map procedure_of procedures.now)) }
 {
     for procedure in procedures {
         entries.push(Entry {
@@ -95,7 +98,8 @@ pub fn add_result<'a>(
     procedure: &'a Subprogram,
     entries: &mut Vec<Entry<'a>>,
 ) -> Result<(), AllocError>
-    ensures { OnOk result (entries_of entries.new.items ≡ entries_of entries.old.items ++ heading_entries (InProcedure (procedure_of procedure.now))) }
+    ensures { OnOk result
+        (entries_of entries.new.items ≡ entries_of entries.old.items ++ heading_entries (InProcedure (procedure_of procedure.now))) }
 {
     let Some(name) = result_name(&procedure.procedure.heading) else {
         return Ok(());

@@ -1,5 +1,6 @@
 -- The meanings of a scope's names, one declaration after the other.
-use Rattle.std.proofs.Common.{◌≡◌, ℕ, suc, ◌+◌, ◌<◌, List, [], ◌∷◌, ◌++◌, map, length, drop, drop-cons, get_or, refl, sym, ap, subst, ◌∙◌, append_assoc, length-append, arith}
+use Rattle.std.proofs.Common.{◌≡◌, ℕ, suc, ◌+◌, ◌<◌, List, [], ◌∷◌, ◌++◌, map, length, drop, drop-cons, get_or, refl, sym, ap}
+use Rattle.std.proofs.Common.{subst, ◌∙◌, append_assoc, length-append, arith}
 use Rattle.std.proofs.lemmas.List.{append-nil, drop_all, drop-map}
 use Rattle.f95_tree.specs.Forms.{Word}
 use Rattle.names_types.specs.declared.meaning.Meaning.{Meaning}
@@ -27,7 +28,8 @@ module _ (host : List Meant) (es : List Entry) (own : List Word) where
         same = ap (λ xs. xs ++ meant_from (names_of es) host xs es) empty;
       }
 
-  pub filled_step : (ms : List Meaning) (i : ℕ) (e : Entry) (m : Meaning) → Filled host es own ms i → i < length es → e ≡ get_or es i e
+  pub filled_step : (ms : List Meaning) (i : ℕ) (e : Entry) (m : Meaning) → Filled host es own ms i → i < length es →
+      e ≡ get_or es i e
       → m ≡ entry_meaning own host (meant_by own ms) e → Filled host es own (ms ++ m ∷ []) (i + 1)
   filled_step ms i e m f within is meaning =
       let next : suc i ≡ i + 1 = omega arith in
@@ -43,14 +45,17 @@ module _ (host : List Meant) (es : List Entry) (own : List Word) where
       let whole = meant_from (names_of es) host [] es in
       let before : meant_by own ms ++ meant_from (names_of es) host (meant_by own ms) (e ∷ drop (i + 1) es) ≡ whole =
       subst (λ xs. meant_by own ms ++ meant_from (names_of es) host (meant_by own ms) xs ≡ whole) split f.same in
-      let after : meant_by own ms ++ (meant e.name m ∷ meant_from (names_of es) host (meant_by own ms ++ meant e.name m ∷ []) (drop (i + 1) es)) ≡ whole =
-      ap (λ x. meant_by own ms ++ (meant e.name x ∷ meant_from (names_of es) host (meant_by own ms ++ meant e.name x ∷ []) (drop (i + 1) es))) said
+      let after : meant_by own ms
+      ++ (meant e.name m ∷ meant_from (names_of es) host (meant_by own ms ++ meant e.name m ∷ []) (drop (i + 1) es)) ≡ whole =
+      ap (λ x. meant_by own ms
+      ++ (meant e.name x ∷ meant_from (names_of es) host (meant_by own ms ++ meant e.name x ∷ []) (drop (i + 1) es))) said
       ∙ before in
       record {
         names = f.names;
         counted = omega (arith, length-append ms (m ∷ []), f.counted);
         same = ap (λ xs. xs ++ meant_from (names_of es) host xs (drop (i + 1) es)) more
-            ∙ (append_assoc (meant_by own ms) (meant e.name m ∷ []) (meant_from (names_of es) host (meant_by own ms ++ meant e.name m ∷ []) (drop (i + 1) es))
+            ∙ (append_assoc (meant_by own ms) (meant e.name m ∷ [])
+            (meant_from (names_of es) host (meant_by own ms ++ meant e.name m ∷ []) (drop (i + 1) es))
             ∙ after);
       }
 

@@ -19,7 +19,8 @@ none_by : (name : Word) (r : Option Intrinsic) → intrinsic_named name ≡ r �
 none_by name (Some w) e h = absurd (h w (named_has_name name w e))
 none_by name None e h = refl
 
-pub named_is : (name : Word) (r : Option Intrinsic) → IfSome r (λ w. name_of w ≡ name) → IfNone r ((w : Intrinsic) → name_of w ≢ name)
+pub named_is : (name : Word) (r : Option Intrinsic) → IfSome r (λ w. name_of w ≡ name) →
+    IfNone r ((w : Intrinsic) → name_of w ≢ name)
     → r ≡ intrinsic_named name
 named_is name (Some w) some none = sym (each_is_found w) ∙ (ap found some ∙ sym (named_is_found name))
 named_is name None some none = none_by name (intrinsic_named name) refl none

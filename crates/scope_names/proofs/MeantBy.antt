@@ -1,5 +1,6 @@
 -- Meanings by the places of their names, and one after the other.
-use Rattle.std.proofs.Common.{◌≡◌, ℕ, zero, suc, ◌+◌, ◌-◌, ◌≤◌, Bool, true, false, cond, List, [], ◌∷◌, ◌++◌, map, drop, length, Option, Some, None, refl, sym, ap, ◌∙◌, arith}
+use Rattle.std.proofs.Common.{◌≡◌, ℕ, zero, suc, ◌+◌, ◌-◌, ◌≤◌, Bool, true, false, cond, List, [], ◌∷◌, ◌++◌, map, drop, length}
+use Rattle.std.proofs.Common.{Option, Some, None, refl, sym, ap, ◌∙◌, arith}
 use Rattle.std.specs.Prelude.{nat_eq, slice_get, option_map}
 use Rattle.std.specs.List.{position_from, find}
 use Rattle.std.specs.Cmp.Lexicographic.{pointwise}
@@ -20,7 +21,8 @@ behind : {A : Type 0} (test : A → Bool) (i p : ℕ) (xs : List A) → position
 behind test i p [] e = absurd (none_some p e)
 behind test i p (x ∷ xs) e = by (test x) e (behind test (i + 1) p xs)
   where
-    by : (b : Bool) → cond b (Some i) (position_from test (i + 1) xs) ≡ Some p → (position_from test (i + 1) xs ≡ Some p → i + 1 ≤ p) → i ≤ p
+    by : (b : Bool) → cond b (Some i) (position_from test (i + 1) xs) ≡ Some p →
+        (position_from test (i + 1) xs ≡ Some p → i + 1 ≤ p) → i ≤ p
     by true e next = let same : i ≡ p = some_same i p e in omega (arith, same)
     by false e next = omega (arith, next e)
 
@@ -32,12 +34,15 @@ module _ (name : Word) where
       → slice_get ms (p - i) ≡ meaning_in (meant_by ns ms) name
   found_from [] ms i p e = absurd (none_some p e)
   found_from (n ∷ ns) [] i p e = refl
-  found_from (n ∷ ns) (m ∷ ms) i p e = by (pointwise nat_eq name n) e (behind (pointwise nat_eq name) (i + 1) p ns) (found_from ns ms (i + 1) p)
+  found_from (n ∷ ns) (m ∷ ms) i p e = by (pointwise nat_eq name n) e (behind (pointwise nat_eq name) (i + 1) p ns)
+      (found_from ns ms (i + 1) p)
     where
       by : (b : Bool) → cond b (Some i) (position_from (pointwise nat_eq name) (i + 1) ns) ≡ Some p
           → (position_from (pointwise nat_eq name) (i + 1) ns ≡ Some p → i + 1 ≤ p)
-          → (position_from (pointwise nat_eq name) (i + 1) ns ≡ Some p → slice_get ms (p - (i + 1)) ≡ meaning_in (meant_by ns ms) name)
-          → slice_get (m ∷ ms) (p - i) ≡ option_map (λ (x : Meant). x.meaning) (cond b (Some (meant n m)) (find (λ (x : Meant). is_word name x.name) (meant_by ns ms)))
+          → (position_from (pointwise nat_eq name) (i + 1) ns ≡ Some p → slice_get ms (p - (i + 1))
+          ≡ meaning_in (meant_by ns ms) name)
+          → slice_get (m ∷ ms) (p - i) ≡ option_map (λ (x : Meant). x.meaning)
+          (cond b (Some (meant n m)) (find (λ (x : Meant). is_word name x.name) (meant_by ns ms)))
       by true e far next =
           let same : i ≡ p = some_same i p e in
           let here : p - i ≡ 0 = omega (arith, same) in
@@ -52,12 +57,14 @@ module _ (name : Word) where
     where
       by : (b : Bool) → cond b (Some i) (position_from (pointwise nat_eq name) (i + 1) ns) ≡ None
           → (position_from (pointwise nat_eq name) (i + 1) ns ≡ None → None ≡ meaning_in (meant_by ns ms) name)
-          → None ≡ option_map (λ (x : Meant). x.meaning) (cond b (Some (meant n m)) (find (λ (x : Meant). is_word name x.name) (meant_by ns ms)))
+          → None ≡ option_map (λ (x : Meant). x.meaning)
+          (cond b (Some (meant n m)) (find (λ (x : Meant). is_word name x.name) (meant_by ns ms)))
       by true e next = absurd (none_some i (sym e))
       by false e next = next e
 
   -- a name that stands at a place means what the meaning at that place says
-  pub found_by : (ns : List Word) (ms : List Meaning) (p : ℕ) → first_place name ns ≡ Some p → slice_get ms p ≡ meaning_in (meant_by ns ms) name
+  pub found_by : (ns : List Word) (ms : List Meaning) (p : ℕ) → first_place name ns ≡ Some p →
+      slice_get ms p ≡ meaning_in (meant_by ns ms) name
   found_by ns ms p e = let same : p ≡ p - 0 = omega arith in ap (λ k. slice_get ms k) same ∙ found_from ns ms 0 p e
 
   pub nowhere_by : (ns : List Word) (ms : List Meaning) → first_place name ns ≡ None → None ≡ meaning_in (meant_by ns ms) name
@@ -84,7 +91,8 @@ module _ (own : List Word) (host : List Meant) where
   abbrev pub meant_from : List Meant → List Entry → List Meant
   meant_from before [] = []
   meant_from before (e ∷ more) =
-      meant e.name (entry_meaning own host before e) ∷ meant_from (before ++ meant e.name (entry_meaning own host before e) ∷ []) more
+      meant e.name (entry_meaning own host before e) ∷ meant_from (before ++ meant e.name (entry_meaning own host before e) ∷ [])
+      more
 
   pub meant_is_from : (earlier : List Entry) (before : List Meant) (es : List Entry)
       → map (λ (s : Sited). meant s.entry.name s.meaning) (sited_from own host earlier before es) ≡ meant_from before es

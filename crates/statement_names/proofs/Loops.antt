@@ -7,7 +7,8 @@ use Rattle.f95_tree.specs.declared.expression.Expression.TheFolds.{fold-roll-Val
 use Rattle.f95_tree.specs.declared.expression.Value.{Value}
 use Rattle.f95_tree.specs.declared.expression.Value.TheVariants as v
 use Rattle.names_types.specs.Plain as plain
-use Rattle.names_types.specs.View.{AddItem, AddValue, expression_at, item_at, reference_at, value_at, joined_values, bound_of, expr_of, value_of}
+use Rattle.names_types.specs.View.{AddItem, AddValue, expression_at, item_at, reference_at, value_at, joined_values, bound_of}
+use Rattle.names_types.specs.View.{expr_of, value_of}
 
 pub loop_is : (values : List Value) (name : Word) (first last : Expression) (step : Option Expression) (more : plain.Values)
     → value_of (v.ImpliedDo values name first last step) more

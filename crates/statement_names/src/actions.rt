@@ -1,6 +1,8 @@
 //! The names that a statement names itself.
 ghost use Rattle.std.specs.Prelude.{◌≡◌, ◌++◌, OnOk};
-ghost use Rattle.names_types.specs.View.{names_of, names_of_reference, maybe_names, assignment_names, bound_names, allocation_names, index_names, header_names, arguments_names, action_names, range_names, maybe_range_names, control_names};
+ghost use Rattle.names_types.specs.View.{names_of, names_of_reference, maybe_names, assignment_names, bound_names};
+ghost use Rattle.names_types.specs.View.{allocation_names, index_names, header_names, arguments_names, action_names, range_names};
+ghost use Rattle.names_types.specs.View.{maybe_range_names, control_names};
 
 use crate::expressions::{add_name, expression_names, reference_names};
 use crate::named::{Named, add_each};

@@ -1,6 +1,7 @@
 //! What statements name, those in their blocks among them.
 ghost use Rattle.std.specs.Prelude.{◌≡◌, ◌++◌, map, option_map, OnOk};
-ghost use Rattle.names_types.specs.View.{together, last_part, where_mentions, where_statement_mentions, elsewhere_mentions, statement_mentions, branch_mentions, case_mentions, otherwise_mentions};
+ghost use Rattle.names_types.specs.View.{together, last_part, where_mentions, where_statement_mentions, elsewhere_mentions};
+ghost use Rattle.names_types.specs.View.{statement_mentions, branch_mentions, case_mentions, otherwise_mentions};
 
 use crate::lines::{note, note_assignments, note_both};
 use f95_tree::{Branch, Case, ElseWhere, Otherwise, Statement, WhereBlock, WhereStatement};

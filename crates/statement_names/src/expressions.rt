@@ -89,7 +89,8 @@ fn items_names(items: &[Item], names: &mut Vec<SharedBytes>) -> Result<(), Alloc
 
 #[cycle(names)]
 fn item_names(item: &Item, names: &mut Vec<SharedBytes>) -> Result<(), AllocError>
-    ensures { OnOk result ((more : Items) → names.new.items ++ names_in_items more ≡ names.old.items ++ names_in_items (item_of item.now more)) }
+    ensures { OnOk result
+        ((more : Items) → names.new.items ++ names_in_items more ≡ names.old.items ++ names_in_items (item_of item.now more)) }
 {
     match item {
         Item::Plain(e) => expression_names(e, names),
@@ -114,7 +115,8 @@ fn values_names(values: &[Value], names: &mut Vec<SharedBytes>) -> Result<(), Al
 
 #[cycle(names)]
 fn value_names(value: &Value, names: &mut Vec<SharedBytes>) -> Result<(), AllocError>
-    ensures { OnOk result ((more : Values) → names.new.items ++ names_in_values more ≡ names.old.items ++ names_in_values (value_of value.now more)) }
+    ensures { OnOk result
+        ((more : Values) → names.new.items ++ names_in_values more ≡ names.old.items ++ names_in_values (value_of value.now more)) }
 {
     match value {
         Value::One(e) => expression_names(e, names),

@@ -9,7 +9,11 @@ use f95_tree::Assignment;
 use names_types::Mention;
 use std::alloc::{AllocError, Global};
 
-fn note_names(line: Line, names: Vec<Bytes>, mentions: &mut Vec<Mention>) -> Result<(), AllocError>
+fn note_names(
+    line: Line,
+    names: Vec<SharedBytes>,
+    mentions: &mut Vec<Mention>,
+) -> Result<(), AllocError>
     ensures { OnOk result (mentions.new.items ≡ mentions.old.items ++ mentions_on line.0 names.items) }
 {
     for name in names {

@@ -1,5 +1,6 @@
 -- The first place of a part in a text.
-use Rattle.std.proofs.Common.{◌≡◌, ℕ, zero, suc, ◌+◌, ◌-◌, ◌<◌, ◌≤◌, true, false, List, [], ◌∷◌, ◌++◌, length, get_or, take, drop, refl, sym, ap, ◌∙◌, subst, arith, length-append}
+use Rattle.std.proofs.Common.{◌≡◌, ℕ, zero, suc, ◌+◌, ◌-◌, ◌<◌, ◌≤◌, true, false, List, [], ◌∷◌, ◌++◌, length, get_or, take, drop}
+use Rattle.std.proofs.Common.{refl, sym, ap, ◌∙◌, subst, arith, length-append}
 use Rattle.std.specs.Prelude.{nat_eq}
 use Rattle.std.specs.List.{starts_with}
 use Rattle.std.proofs.lemmas.List.{length-take-le, ext_get_or, get_or-take, take-append-drop, get_or_append_left}
@@ -34,11 +35,13 @@ occurs_front text part h =
 front_occurs : (text part rest : List ℕ) → text ≡ part ++ rest → OccursAt text part 0
 front_occurs text part rest e = record {
   fits = let long : length text ≡ length part + length rest = ap length e ∙ length-append part rest in omega arith;
-  reads = λ j below. let k : 0 + j ≡ j = omega arith in ap (λ i. get_or text i 0) k ∙ ap (λ xs. get_or xs j 0) e ∙ get_or_append_left part rest 0 j below;
+  reads = λ j below. let k : 0 + j ≡ j = omega arith in ap (λ i. get_or text i 0) k ∙ ap (λ xs. get_or xs j 0) e
+      ∙ get_or_append_left part rest 0 j below;
 }
 
 occurs_starts : (text part : List ℕ) → OccursAt text part 0 → starts_with nat_eq text part ≡ true
-occurs_starts text part h = (starts_is Decides-eqb text part (starts_with nat_eq text part) refl).1 (drop (length part) text) (occurs_front text part h)
+occurs_starts text part h = (starts_is Decides-eqb text part (starts_with nat_eq text part) refl).1 (drop (length part) text)
+    (occurs_front text part h)
 
 starts_occurs : (text part : List ℕ) → starts_with nat_eq text part ≡ true → OccursAt text part 0
 starts_occurs text part h =
@@ -48,12 +51,15 @@ here : (place : ℕ) (text part : List ℕ) → starts_with nat_eq text part ≡
 here place [] part h = rw h refl
 here place (c ∷ cs) part h = rw h refl
 
-later : (place c : ℕ) (cs part : List ℕ) → (OccursAt (c ∷ cs) part 0 → ⊥) → place_from place (c ∷ cs) part ≡ place_from (place + 1) cs part
+later : (place c : ℕ) (cs part : List ℕ) → (OccursAt (c ∷ cs) part 0 → ⊥) → place_from place (c ∷ cs) part
+    ≡ place_from (place + 1) cs part
 later place c cs part h =
-    let other : starts_with nat_eq (c ∷ cs) part ≡ false = false_from_ne_true _ (λ starts. h (starts_occurs (c ∷ cs) part starts)) in
+    let other : starts_with nat_eq (c ∷ cs) part ≡ false = false_from_ne_true _ (λ starts. h (starts_occurs (c ∷ cs) part starts))
+    in
     rw other refl
 
-pub place_found : (place : ℕ) (text part : List ℕ) (k : ℕ) → OccursAt text part k → ((j : ℕ) → j < k → ¬ (OccursAt text part j)) → place_from place text part ≡ place + k
+pub place_found : (place : ℕ) (text part : List ℕ) (k : ℕ) → OccursAt text part k → ((j : ℕ) → j < k → ¬ (OccursAt text part j)) →
+    place_from place text part ≡ place + k
 place_found place [] part k h none =
     let e : k ≡ 0 = omega (arith, h.fits) in
     here place [] part (occurs_starts [] part (subst (λ i. OccursAt [] part i) e h)) ∙ omega arith
@@ -65,16 +71,19 @@ place_found place (c ∷ cs) part (suc k) h none =
     ∙ place_found (place + 1) cs part k behind (λ j below at. none (j + 1) (omega arith) (occurs_next c cs part j at))
     ∙ omega arith
 
-pub place_none : (place : ℕ) (text part : List ℕ) → ((j : ℕ) → j < length text + 1 → ¬ (OccursAt text part j)) → place_from place text part ≡ 0
+pub place_none : (place : ℕ) (text part : List ℕ) → ((j : ℕ) → j < length text + 1 → ¬ (OccursAt text part j)) →
+    place_from place text part ≡ 0
 place_none place [] part none =
-    let other : starts_with nat_eq [] part ≡ false = false_from_ne_true _ (λ starts. none 0 (omega arith) (starts_occurs [] part starts)) in
+    let other : starts_with nat_eq [] part ≡ false = false_from_ne_true _
+    (λ starts. none 0 (omega arith) (starts_occurs [] part starts)) in
     rw other refl
 place_none place (c ∷ cs) part none =
     later place c cs part (none 0 (omega arith))
     ∙ place_none (place + 1) cs part (λ j below at. none (j + 1) (omega arith) (occurs_next c cs part j at))
 
 -- the first place is before the end, but for a text of no bytes
-pub place_small : (text part : List ℕ) (k : ℕ) → OccursAt text part k → ((j : ℕ) → j < k → ¬ (OccursAt text part j)) → k ≤ length text - 1
+pub place_small : (text part : List ℕ) (k : ℕ) → OccursAt text part k → ((j : ℕ) → j < k → ¬ (OccursAt text part j)) →
+    k ≤ length text - 1
 place_small text [] zero h none = omega arith
 place_small text [] (suc k) h none =
     absurd (none 0 (omega arith) (record { fits = omega (arith, h.fits); reads = λ j below. absurd (omega arith) }))

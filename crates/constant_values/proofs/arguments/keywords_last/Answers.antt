@@ -11,5 +11,7 @@ returns-then-is_some c =
     let item = c.argument-item.result in
     let is : item ≡ get_or rest 0 item = c.argument-item.is in
     let keyed : is_some item.keyword ≡ true = search rules in
-    let all : c.all_have_keywords.result ≡ list_all (λ (b : Argument). is_some b.keyword) (take (length rest - 1) (drop 1 rest)) = c.all_have_keywords.ensures in
-    all ∙ (keywords_behind_first rest item (omega arith) (ap (λ (a : Argument). is_some a.keyword) (sym is) ∙ keyed) ∙ c.looking.invariant)
+    let all : c.all_have_keywords.result ≡ list_all (λ (b : Argument). is_some b.keyword) (take (length rest - 1) (drop 1 rest)) =
+    c.all_have_keywords.ensures in
+    all ∙ (keywords_behind_first rest item (omega arith) (ap (λ (a : Argument). is_some a.keyword) (sym is) ∙ keyed)
+    ∙ c.looking.invariant)

@@ -16,15 +16,21 @@ loop-argument-preserved c =
     let at : argument_place c.args.which c.loop-argument.next item.keyword ≡ Some c.in-Some.place = search rules in
     let split : drop i items ≡ item ∷ drop (i + 1) items =
     here ∙ (ap (λ (a : Argument). a ∷ drop (suc i) items) (sym is) ∙ ap (λ n. item ∷ drop n items) next) in
-    let before : option_map (λ ys. c.loop-argument.made.items ++ ys) (placed_from c.args.which c.loop-argument.next (item ∷ drop (i + 1) items))
+    let before : option_map (λ ys. c.loop-argument.made.items ++ ys)
+    (placed_from c.args.which c.loop-argument.next (item ∷ drop (i + 1) items))
     ≡ placed_from c.args.which 0 items =
-    subst (λ (rest : List Argument). option_map (λ ys. c.loop-argument.made.items ++ ys) (placed_from c.args.which c.loop-argument.next rest) ≡ placed_from c.args.which 0 items)
+    subst (λ (rest : List Argument). option_map (λ ys. c.loop-argument.made.items ++ ys)
+    (placed_from c.args.which c.loop-argument.next rest) ≡ placed_from c.args.which 0 items)
     split c.loop-argument.invariant.same in
     let made : c.push.new.self.items ≡ c.loop-argument.made.items ++ (c.in-Some.place, item) ∷ [] =
-    c.in_ok-push.ensures.items ∙ ap (λ (a : Argument). c.loop-argument.made.items ++ (c.in-Some.place, a) ∷ []) c.in_ok-copy_argument.ensures in
+    c.in_ok-push.ensures.items ∙ ap (λ (a : Argument). c.loop-argument.made.items ++ (c.in-Some.place, a) ∷ [])
+    c.in_ok-copy_argument.ensures in
     record {
       counted = omega (arith, c.loop-argument.invariant.counted);
-      same = subst (λ (ps : List Placed). option_map (λ ys. ps ++ ys) (placed_from c.args.which (c.loop-argument.next + 1) (drop (i + 1) items)) ≡ placed_from c.args.which 0 items)
+      same = subst
+          (λ (ps : List Placed). option_map (λ ys. ps ++ ys)
+          (placed_from c.args.which (c.loop-argument.next + 1) (drop (i + 1) items)) ≡ placed_from c.args.which 0 items)
           (sym made)
-          (placed_more c.args.which c.loop-argument.next c.in-Some.place item c.loop-argument.made.items (drop (i + 1) items) (placed_from c.args.which 0 items) at before);
+          (placed_more c.args.which c.loop-argument.next c.in-Some.place item c.loop-argument.made.items (drop (i + 1) items)
+          (placed_from c.args.which 0 items) at before);
     }

@@ -6,4 +6,5 @@ use Rattle.declared_meanings.proofs.attributes.has_parameter.Given as goal
 
 abbrev pub invariant-loop-attribute : goal.invariant-loop-attribute
 invariant-loop-attribute l =
-    list_any is_parameter (map attribute_of (drop l.attribute-index l.attributes)) ≡ list_any is_parameter (map attribute_of l.attributes)
+    list_any is_parameter (map attribute_of (drop l.attribute-index l.attributes))
+    ≡ list_any is_parameter (map attribute_of l.attributes)

@@ -1,4 +1,5 @@
-use Rattle.std.proofs.Common.{◌≡◌, [], ◌∷◌, ◌++◌, ◌+◌, ◌==◌, ◌&&◌, not, List, suc, get_or, drop, drop-cons, Bool, nat_eq, sym, ap, subst, ◌∙◌, arith, rules}
+use Rattle.std.proofs.Common.{◌≡◌, [], ◌∷◌, ◌++◌, ◌+◌, ◌==◌, ◌&&◌, not, List, suc, get_or, drop, drop-cons, Bool, nat_eq, sym, ap}
+use Rattle.std.proofs.Common.{subst, ◌∙◌, arith, rules}
 use Rattle.std.specs.Prelude.{if◌then◌else◌}
 use Rattle.std.specs.List.{list_any}
 use Rattle.std.specs.Cmp.Lexicographic.{pointwise}
@@ -22,7 +23,8 @@ loop-one-preserved c =
     let next : suc i ≡ i + 1 = omega arith in
     let split : drop i all ≡ one ∷ rest =
     drop-cons all i one (omega arith) ∙ (ap (λ (b : Brought). b ∷ drop (suc i) all) (sym is) ∙ ap (λ n. one ∷ drop n all) next) in
-    let before : Kept keys kept (one ∷ rest) whole = subst (λ (bs : List Brought). Kept keys kept bs whole) split c.loop-one.invariant in
+    let before : Kept keys kept (one ∷ rest) whole = subst (λ (bs : List Brought). Kept keys kept bs whole) split
+    c.loop-one.invariant in
     let named : c.in_ok-name.name.items ≡ one.share.now.name = search rules in
     let key : seen_as (c.in_ok-name.name, one.share.now.place) ≡ key_of one = ap (λ n. (n, one.share.now.place)) named in
     let made = c.insert_full.new.self.keys in

@@ -8,7 +8,8 @@ use Rattle.scope_names.proofs.filling.meanings_of.Goals as goal
 
 pub loop-entry-init : goal.loop-entry-init
 loop-entry-init c =
-    filled_start (meant_in c.args.host.now) (entries_of c.args.entries.now) c.in_ok-names.names c.new.result.items c.in_ok-names.ensures c.new.ensures.items
+    filled_start (meant_in c.args.host.now) (entries_of c.args.entries.now) c.in_ok-names.names c.new.result.items
+    c.in_ok-names.ensures c.new.ensures.items
 
 pub loop-entry-preserved : goal.loop-entry-preserved
 loop-entry-preserved c =
@@ -18,8 +19,10 @@ loop-entry-preserved c =
     let within : i < length es = subst (λ n. i < n) (sym (length-map c.args.entries.now entry_of)) (omega arith) in
     let is : entry_of one ≡ get_or es i (entry_of one) =
     ap entry_of c.entry-item.is ∙ sym (get_or-map entry_of c.args.entries.now i one (entry_of one) (omega arith)) in
-    subst (λ (ms : List Meaning). Filled (meant_in c.args.host.now) es c.loop-entry.own.names ms (i + 1)) (sym c.in_ok-push.ensures.items)
-    (filled_step (meant_in c.args.host.now) es c.loop-entry.own.names c.loop-entry.own.meanings.items i (entry_of one) c.in_ok-meaning.meaning
+    subst (λ (ms : List Meaning). Filled (meant_in c.args.host.now) es c.loop-entry.own.names ms (i + 1))
+    (sym c.in_ok-push.ensures.items)
+    (filled_step (meant_in c.args.host.now) es c.loop-entry.own.names c.loop-entry.own.meanings.items i (entry_of one)
+    c.in_ok-meaning.meaning
     c.loop-entry.invariant within is c.in_ok-meaning.ensures)
 
 pub returns-clause-names : goal.returns-clause-names
@@ -27,6 +30,7 @@ returns-clause-names c = c.loop-entry.invariant.names
 
 pub returns-clause-meanings : goal.returns-clause-meanings
 returns-clause-meanings c =
-    let end : length (entries_of c.args.entries.now) ≡ c.loop-entry.entry-index = length-map c.args.entries.now entry_of ∙ omega arith in
+    let end : length (entries_of c.args.entries.now) ≡ c.loop-entry.entry-index = length-map c.args.entries.now entry_of
+    ∙ omega arith in
     filled_end (meant_in c.args.host.now) (entries_of c.args.entries.now) c.loop-entry.own.names c.loop-entry.own.meanings.items
     c.loop-entry.entry-index c.loop-entry.invariant end

@@ -29,7 +29,9 @@ value_names-returns-in_ok-expression_names-in-ImpliedDo-2 t c =
     let said : (more : Values) → names_in_values (value_of c.args.value.now more)
     ≡ c.in-ImpliedDo.name ∷ (body ++ (first ++ (last ++ (step ++ names_in_values more)))) =
     λ more. ap (λ v. names_in_values (value_of v more)) c.in-ImpliedDo.is
-    ∙ ap names_in_values (loop_is c.in-ImpliedDo.values c.in-ImpliedDo.name c.in-ImpliedDo.first c.in-ImpliedDo.last c.in-ImpliedDo.step more) in
+    ∙ ap names_in_values
+    (loop_is c.in-ImpliedDo.values c.in-ImpliedDo.name c.in-ImpliedDo.first c.in-ImpliedDo.last c.in-ImpliedDo.step more) in
     on_ok {P = n5 ≡ n4 ++ step} c.bound_names.result c.bound_names.ensures (λ e5 more.
-    joined before n1 n2 n3 n4 n5 c.in-ImpliedDo.name body first last step (names_in_values more) c.in_ok-add_name-in-ImpliedDo.ensures e2 e3 e4 e5
+    joined before n1 n2 n3 n4 n5 c.in-ImpliedDo.name body first last step (names_in_values more)
+    c.in_ok-add_name-in-ImpliedDo.ensures e2 e3 e4 e5
     ∙ ap (λ ns. before ++ ns) (sym (said more)))

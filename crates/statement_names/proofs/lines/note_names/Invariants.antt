@@ -5,6 +5,7 @@ use Rattle.statement_names.proofs.lines.note_names.Given as goal
 
 abbrev pub invariant-loop-name : goal.invariant-loop-name
 invariant-loop-name l = record {
-  same : l.mentions.items ++ mentions_on l.line.0 (into_iter_items l.name-iterator) ≡ l.initial.mentions.items ++ mentions_on l.line.0 l.fn.names.items;
+  same : l.mentions.items ++ mentions_on l.line.0 (into_iter_items l.name-iterator) ≡ l.initial.mentions.items
+      ++ mentions_on l.line.0 l.fn.names.items;
   left : into_iter_len l.name-iterator ≡ length (into_iter_items l.name-iterator);
 }

@@ -7,9 +7,11 @@ pub returns-in-Some : goal.returns-in-Some
 returns-in-Some c =
     let at = c.in-Some.at in
     let found : first_place c.args.text.now c.args.part.now ≡ 1 + at =
-    place_found 1 c.args.text.now c.args.part.now at c.in-Some.ensures.1 (λ j below. c.in-Some.ensures.0.before j (omega arith) below) in
+    place_found 1 c.args.text.now c.args.part.now at c.in-Some.ensures.1
+    (λ j below. c.in-Some.ensures.0.before j (omega arith) below) in
     let small : at ≤ length c.args.text.now - 1 =
-    place_small c.args.text.now c.args.part.now at c.in-Some.ensures.1 (λ j below. c.in-Some.ensures.0.before j (omega arith) below) in
+    place_small c.args.text.now c.args.part.now at c.in-Some.ensures.1 (λ j below. c.in-Some.ensures.0.before j (omega arith) below)
+    in
     record { place = omega (arith, found); within = omega (arith, small) }
 
 pub returns-in-None : goal.returns-in-None
