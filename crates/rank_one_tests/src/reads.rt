@@ -97,7 +97,7 @@ fn refused(alloc: Global, text: &[u8]) -> Result<Told, Fail> {
     let Ok(source) = source_of(alloc, text) else {
         return Err(Fail::new("refused before"));
     };
-    match unit_of(alloc, &source) {
+    match unit_of(alloc, source) {
         Ok(Ok(_)) => Ok(None),
         Ok(Err(error)) => told(4, error),
         Err(error) => told(3, error),
@@ -259,7 +259,7 @@ fn names_become_places(rt: HostRuntime) -> Result<(), Fail> {
     let Ok(source) = source_of(rt.alloc(), PLACED) else {
         return Err(Fail::new("refused before"));
     };
-    let Ok(Ok(unit)) = unit_of(rt.alloc(), &source) else {
+    let Ok(Ok(unit)) = unit_of(rt.alloc(), source) else {
         return Err(Fail::new("refused"));
     };
     assert!(rt; is_placed(&unit));

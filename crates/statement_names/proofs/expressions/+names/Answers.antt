@@ -22,7 +22,7 @@ value_names-returns-in_ok-expression_names-in-ImpliedDo-2 t c =
     let n2 = c.values_names.new.names.items in
     let n3 = c.expression_names-in-ImpliedDo.new.names.items in
     let n4 = c.expression_names-in-ImpliedDo-2.new.names.items in
-    let n5 = c.bound_names.new.names.items in
+    let n5 = c.boxed_names.new.names.items in
     let e2 : n2 ≡ n1 ++ body = search rules in
     let e3 : n3 ≡ n2 ++ first = search rules in
     let e4 : n4 ≡ n3 ++ last = search rules in
@@ -31,7 +31,7 @@ value_names-returns-in_ok-expression_names-in-ImpliedDo-2 t c =
     λ more. ap (λ v. names_in_values (value_of v more)) c.in-ImpliedDo.is
     ∙ ap names_in_values
     (loop_is c.in-ImpliedDo.values c.in-ImpliedDo.name c.in-ImpliedDo.first c.in-ImpliedDo.last c.in-ImpliedDo.step more) in
-    on_ok {P = n5 ≡ n4 ++ step} c.bound_names.result c.bound_names.ensures (λ e5 more.
+    on_ok {P = n5 ≡ n4 ++ step} c.boxed_names.result c.boxed_names.ensures (λ e5 more.
     joined before n1 n2 n3 n4 n5 c.in-ImpliedDo.name body first last step (names_in_values more)
     c.in_ok-add_name-in-ImpliedDo.ensures e2 e3 e4 e5
     ∙ ap (λ ns. before ++ ns) (sym (said more)))
