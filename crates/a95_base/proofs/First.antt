@@ -1,11 +1,11 @@
 -- The first of some breaks is one of them, and comes before the others.
-use Rattle.std.proofs.Common.{◌≡◌, ℕ, ◌<◌, ◌≤◌, ◌⊎◌, Bool, true, false, ◌&&◌, ◌||◌, ◌==◌, nat_lt, nat_le, cond, List, [], ◌∷◌, Some}
+use Rattle.std.proofs.Common.{◌≡◌, ℕ, ◌<◌, ◌≤◌, ◌⊎◌, Bool, true, false, ◌&&◌, ◌||◌, ◌==◌, nat_lt, nat_le, cond, List, [], ◌∷◌, Some, None}
 use Rattle.std.proofs.Common.{refl, ◌∙◌, subst, inl, inr, ⊎_elim, arith}
 use Rattle.std.proofs.lemmas.Bool.{cases_lt}
 use Rattle.std.proofs.lemmas.Bool.Decides.{nat_tests}
 use Rattle.a95_base.specs.Lists.{Member}
 use Rattle.a95_base.specs.declared.breaks.Break.{Break}
-use Rattle.a95_base.specs.Breaks.{ComesFirst, IsLeast, AreBroken, broken_at, comes_first, first_from, first_of}
+use Rattle.a95_base.specs.Breaks.{ComesFirst, IsLeast, AreBroken, broken_at, comes_first, first_from, first_of, noted}
 
 -- break a comes before break b, or both are the same
 pub record Before (a b : Break) : Type 0 where
@@ -82,3 +82,16 @@ first_is_least IsBroken bs f are e = record {
   broken = are.sound f (first_of_is bs f e).among;
   least = λ line. λ rule. λ b. ((first_of_is bs f e).before (broken_at line rule) (are.complete line rule b)).order;
 }
+
+-- where none is first, there is none
+pub no_break : (bs : List Break) → first_of bs ≡ None → bs ≡ []
+no_break [] e = refl
+no_break (b ∷ bs) e = cc
+
+pub none_among : (bs : List Break) → first_of bs ≡ None → (b : Break) → Member bs b → ⊥
+none_among [] e b m = m
+none_among (c ∷ cs) e b m = cc
+
+pub noted_here : (t : Bool) (b : Break) → t ≡ true → Member (noted t b) b
+noted_here true b h = inl refl
+noted_here false b h = cc

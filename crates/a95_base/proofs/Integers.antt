@@ -1,6 +1,9 @@
 -- Ring laws of the integers that std lacks. `omega (arith, ints)` does sums; these are for products.
-use Rattle.std.proofs.Common.{◌≡◌, ℤ, zero, suc, pos, negsuc, ◌+ℤ◌, ◌-ℤ◌, ◌*ℤ◌, refl, sym, ap, ◌∙◌, subst, arith}
+use Rattle.std.proofs.Common.{◌≡◌, ℤ, zero, suc, pos, negsuc, ◌+ℤ◌, ◌-ℤ◌, ◌*ℤ◌, refl, sym, ap, ◌∙◌, subst, arith, ℕ, ◌<◌, Bool, true, false}
+use Rattle.std.specs.Prelude.{FitsSigned, unsigned_abs, int_lt, if◌then◌else◌}
+use Rattle.std.specs.Int.{w32, int_max}
 use Rattle.std.proofs.lemmas.Int.{ints}
+use Rattle.a95_base.specs.IntegerLaws.{IsInteger}
 use lib.IntN.{neg_ℤ, suc_ℤ, pred_ℤ, suc_ℤ-*ℤ, pred_ℤ-*ℤ, zero-*ℤ}
 
 suc_is : (a : ℤ) → suc_ℤ a ≡ a +ℤ pos 1
@@ -71,3 +74,22 @@ mul_assoc a b c =
     (λ m ih. ap (λ x. x *ℤ c) (one_more m b) ∙ mul_add (m *ℤ b) b c ∙ ap (λ x. x +ℤ b *ℤ c) ih ∙ sym (one_more m (b *ℤ c)))
     (λ m ih. ap (λ x. x *ℤ c) (one_less m b) ∙ mul_sub (m *ℤ b) b c ∙ ap (λ x. x -ℤ b *ℤ c) ih ∙ sym (one_less m (b *ℤ c)))
     a
+
+-- ---- the values of INTEGER, as std has them
+
+pub fits_integer : (z : ℤ) → FitsSigned w32 z → IsInteger z
+fits_integer (pos n) h = (omega (arith, ints), omega (arith, ints, h))
+fits_integer (negsuc n) h = (omega (arith, ints, h), omega (arith, ints))
+
+pub integer_fits : (z : ℤ) → IsInteger z → FitsSigned w32 z
+integer_fits (pos n) h = let g : n < 2147483648 = omega (arith, ints, h.1) in record { sfits = g }
+integer_fits (negsuc n) h = let g : n < 2147483648 = omega (arith, ints, h.0) in record { sfits = g }
+
+max_of : (b : Bool) (n : ℕ) → pos (unsigned_abs (if b then pos n else pos 0)) ≡ (if b then pos n else pos 0)
+max_of true n = refl
+max_of false n = refl
+
+-- what is at least 0 is a natural number
+pub max_natural : (z : ℤ) → pos (unsigned_abs (int_max z (pos 0))) ≡ int_max z (pos 0)
+max_natural (pos n) = max_of (int_lt (pos 0) (pos n)) n
+max_natural (negsuc n) = refl

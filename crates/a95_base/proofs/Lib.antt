@@ -6,5 +6,7 @@ pub mod Permuted
 pub mod Powers
 pub mod Quotients
 pub mod Steps
+pub mod Tests
 pub mod Texts
+pub mod Turns
 pub mod Wrapping

@@ -1,9 +1,10 @@
 -- Laws of the words of `specs/Lists.antt`.
 use Rattle.std.proofs.Common.{◌≡◌, ◌⊎◌, ℕ, zero, suc, ◌<◌, List, [], ◌∷◌, ◌++◌, length, get_or, set, map, refl, ap, ◌∙◌, subst, inl}
-use Rattle.std.proofs.Common.{inr, arith, length-append}
-use Rattle.std.specs.List.{flat_map}
-use Rattle.std.proofs.lemmas.List.{get_or_append_left, get_or_at}
-use Rattle.std.proofs.lemmas.Bool.{cases_lt}
+use Rattle.std.proofs.Common.{inr, arith, length-append, sym, Bool, true}
+use Rattle.std.specs.List.{flat_map, list_all}
+use Rattle.std.proofs.lemmas.List.Folds.{list_all-append}
+use Rattle.std.proofs.lemmas.List.{get_or_append_left, get_or_at, map-append}
+use Rattle.std.proofs.lemmas.Bool.{cases_lt, and_parts}
 use Rattle.a95_base.specs.Lists.{Every, Pairwise, Member, count_to}
 
 -- ---- what holds of each item
@@ -70,6 +71,20 @@ Every-set P [] k y q p = tt
 Every-set P (x ∷ xs) zero y q p = (q, p.1)
 Every-set P (x ∷ xs) (suc k) y q p = (p.0, Every-set P xs k y q p.1)
 
+-- items that come with what holds of each
+pub every_inside : {A : Type 0} (S : A → Type 0) (xs : List ((x : A) × S x)) → Every S (map (λ (p : (x : A) × S x). p.0) xs)
+every_inside S [] = tt
+every_inside S (p ∷ xs) = (p.1, every_inside S xs)
+
+pub map-flat_map : {A B C : Type 0} (f : A → List B) (g : B → C) (xs : List A) → map g (flat_map f xs)
+    ≡ flat_map (λ x. map g (f x)) xs
+map-flat_map f g [] = refl
+map-flat_map f g (x ∷ xs) = map-append g (f x) (flat_map f xs) ∙ ap (λ ys. map g (f x) ++ ys) (map-flat_map f g xs)
+
+pub list_all_parts : {A : Type 0} (test : A → Bool) (xs ys : List A) → list_all test (xs ++ ys) ≡ true
+    → (list_all test xs ≡ true) × (list_all test ys ≡ true)
+list_all_parts test xs ys h = and_parts (list_all test xs) (list_all test ys) (sym (list_all-append test xs ys) ∙ h)
+
 -- a map by two functions that agree on each item
 pub map_agree : {A B : Type 0} (f g : A → B) (xs : List A) → Every (λ x. f x ≡ g x) xs → map f xs ≡ map g xs
 map_agree f g [] p = refl
@@ -110,6 +125,30 @@ pub Member-from_map : {A B : Type 0} (f : A → B) (xs : List A) (z : B) → Mem
 Member-from_map f [] z h = absurd h
 Member-from_map f (x ∷ xs) z (inl e) = (x, (inl refl, e))
 Member-from_map f (x ∷ xs) z (inr h) = let r = Member-from_map f xs z h in (r.0, (inr r.1.0, r.1.1))
+
+pub Member-flat_map : {A B : Type 0} (f : A → List B) (xs : List A) (x : A) (y : B) → Member xs x → Member (f x) y
+    → Member (flat_map f xs) y
+Member-flat_map f [] x y among m = absurd among
+Member-flat_map f (z ∷ zs) x y (inl e) m =
+    Member-append_left (f z) (flat_map f zs) y (subst (λ w. Member (f w) y) (sym e) m)
+Member-flat_map f (z ∷ zs) x y (inr h) m = Member-append_right (f z) (flat_map f zs) y (Member-flat_map f zs x y h m)
+
+-- what is in the pieces is in a piece
+pub Member-from_flat_map : {A B : Type 0} (f : A → List B) (xs : List A) (y : B) → Member (flat_map f xs) y
+    → (x : A) × (Member xs x × Member (f x) y)
+Member-from_flat_map f [] y m = absurd m
+Member-from_flat_map f (z ∷ zs) y m = elim (Member-append_cases (f z) (flat_map f zs) y m) [
+  | inl here ↦ (z, (inl refl, here))
+  | inr there ↦ let found = Member-from_flat_map f zs y there in (found.0, (inr found.1.0, found.1.1))
+]
+
+pub no_member : {A : Type 0} (xs : List A) → ((x : A) → Member xs x → ⊥) → xs ≡ []
+no_member [] h = refl
+no_member (x ∷ xs) h = absurd (h x (inl refl))
+
+pub no_item : {A : Type 0} (x : A) (xs : List A) → xs ≡ [] → Member xs x → ⊥
+no_item x [] e h = h
+no_item x (y ∷ ys) e h = cc
 
 -- a list that has an item is what stands before it, the item, and what stands behind
 pub record Split {A : Type 0} (xs : List A) (y : A) : Type 0 where

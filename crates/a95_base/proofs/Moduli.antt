@@ -107,7 +107,7 @@ modulo_is_near a (negsuc n) m e = subst (λ z. Near a (negsuc n) z) (same_Some _
 
 -- ---- what MOD means
 
-some_divisor : (p : ℤ) → int_eq p (pos 0) ≡ false → 0 < unsigned_abs p
+pub some_divisor : (p : ℤ) → int_eq p (pos 0) ≡ false → 0 < unsigned_abs p
 some_divisor (pos zero) e = absurd (true≢false e)
 some_divisor (pos (suc n)) e = omega arith
 some_divisor (negsuc n) e = omega arith

@@ -118,7 +118,7 @@ power_of_less_odd (pos n) h odd = absurd (omega (arith, ints, h))
 power_of_less_odd (negsuc n) h odd = ap (quotient_of (pos 1)) (less_pow 0 (suc n) ∙ ap (λ r. cond (r == 0) (pos 1) (negsuc 0)) odd)
     ∙ one_over_less
 
-times_some : (x y : ℕ) → 0 < x → 0 < y → 0 < x * y
+pub times_some : (x y : ℕ) → 0 < x → 0 < y → 0 < x * y
 times_some x y p q = le_trans q (le_mul x y p)
 
 some_pow : (a k : ℕ) → 0 < a → 0 < a ^ k

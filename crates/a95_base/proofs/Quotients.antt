@@ -13,11 +13,11 @@ use Rattle.std.proofs.lemmas.Int.{ints, quot-rem}
 use Rattle.a95_base.specs.Integer.{quotient_of, remainder_of}
 use Rattle.a95_base.proofs.Wrapping.{wrapped_is}
 
-abs_neg : (n : ℕ) → unsigned_abs (neg_ℤ (pos n)) ≡ n
+pub abs_neg : (n : ℕ) → unsigned_abs (neg_ℤ (pos n)) ≡ n
 abs_neg zero = refl
 abs_neg (suc n) = refl
 
-abs_div : (x y : ℤ) → unsigned_abs (int_div x y) ≤ unsigned_abs x
+pub abs_div : (x y : ℤ) → unsigned_abs (int_div x y) ≤ unsigned_abs x
 abs_div (pos a) (pos b) = div-le_self a b
 abs_div (pos a) (negsuc b) = subst (λ n. n ≤ a) (sym (abs_neg (a / suc b))) (div-le_self a (suc b))
 abs_div (negsuc a) (pos b) = subst (λ n. n ≤ suc a) (sym (abs_neg (suc a / b))) (div-le_self (suc a) b)

@@ -1,15 +1,20 @@
 -- Laws of texts.
 use Rattle.std.proofs.Common.{◌≡◌, ℕ, suc, ◌+◌, ◌-◌, ◌<◌, List, ◌∷◌, ◌++◌, length, get_or, take, drop, replicate, false, true, sym}
-use Rattle.std.proofs.Common.{ap, ◌∙◌, arith}
-use Rattle.std.specs.Prelude.{max, nat_lt, ◌==◌, cond}
+use Rattle.std.proofs.Common.{ap, ◌∙◌, arith, zero, ◌≤◌, [], refl}
+use Rattle.std.specs.Prelude.{max, nat_lt, ◌==◌, cond, decimal}
+use Rattle.std.specs.List.{list_all}
+use Rattle.std.specs.Str.{bytes_eq}
+use Rattle.std.proofs.lemmas.Fmt.{decimal_digit}
+use Rattle.std.proofs.lemmas.Slice.Eq.{bytes_eq-Decides}
 use Rattle.std.specs.Ordering.{nat_cmp, ordering_then}
 use Rattle.std.specs.Cmp.Lexicographic.{slice_cmp}
 use Rattle.std.specs.declared.cmp.Ordering.TheVariants.{Less, Equal, Greater}
 use Rattle.std.proofs.lemmas.List.{at_drop_more}
 use Rattle.std.proofs.lemmas.Bool.Decides.{nat_tests}
+use Rattle.a95_base.specs.Input.{is_digit, is_number}
 use Rattle.a95_base.specs.Text.{fit, compare_padded}
 
-cmp_same : (c : ℕ) → nat_cmp c c ≡ Equal
+pub cmp_same : (c : ℕ) → nat_cmp c c ≡ Equal
 cmp_same c =
     let below : nat_lt c c ≡ false = grind (arith, nat_tests) in
     let same : (c == c) ≡ true = grind (arith, nat_tests) in
@@ -40,3 +45,25 @@ same_at xs ys i left right same =
     ∙ at_drop_more (λ zs. compare_padded (c ∷ drop (i + 1) xs) zs) ys i 0 right
     ∙ same_front c (drop (i + 1) xs) (drop (i + 1) ys)
     )
+
+-- ---- the same bytes
+
+pub bytes_same : (xs : List ℕ) → bytes_eq xs xs ≡ true
+bytes_same xs = (bytes_eq-Decides xs xs).1 refl
+
+pub same_bytes : (xs ys : List ℕ) → bytes_eq xs ys ≡ true → xs ≡ ys
+same_bytes xs ys e = (bytes_eq-Decides xs ys).0 e
+
+-- ---- digits
+
+pub is_number-some : (digits : List ℕ) → 0 < length digits → is_number digits ≡ list_all is_digit digits
+is_number-some [] h = absurd (omega arith)
+is_number-some (c ∷ cs) h = refl
+
+-- what is written of a number begins with no nought but for 0
+pub some_number : (n : ℕ) (digits : List ℕ) → decimal n ≡ digits → 49 ≤ get_or digits 0 0 → 0 < n
+some_number zero digits e h =
+    let z : decimal 0 ≡ 48 ∷ [] = decimal_digit 0 (omega arith) in
+    let first : get_or digits 0 0 ≡ 48 = ap (λ xs. get_or xs 0 0) (sym e ∙ z) in
+    absurd (omega arith)
+some_number (suc n) digits e h = omega arith

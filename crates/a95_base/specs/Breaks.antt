@@ -1,6 +1,6 @@
 -- Rules of refusal that are broken on lines: which comes first, and the least of all that are broken.
 use Rattle.std.specs.Prelude.{◌≡◌, ℕ, ◌<◌, ◌≤◌, ◌⊎◌, Bool, ◌==◌, ◌&&◌, ◌||◌, nat_lt, nat_le, if◌then◌else◌, List, [], ◌∷◌, Option}
-use Rattle.std.specs.Prelude.{Some, None}
+use Rattle.std.specs.Prelude.{Some, None, true, false}
 use Rattle.a95_base.specs.Lists.{Member}
 use Rattle.a95_base.specs.declared.breaks.Break.{Break}
 
@@ -32,3 +32,8 @@ first_from b (c ∷ cs) = first_from (if comes_first b c then b else c) cs
 abbrev pub first_of : List Break → Option Break
 first_of [] = None
 first_of (b ∷ bs) = Some (first_from b bs)
+
+-- a break, where a test says so
+abbrev pub noted : Bool → Break → List Break
+noted true b = b ∷ []
+noted false b = []

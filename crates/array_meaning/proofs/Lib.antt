@@ -1,6 +1,7 @@
 pub mod Running
 pub mod Turns
 pub mod TurnsOfExpressions
+pub mod TurnsOfFlow
 pub mod TurnsOfStatements
 pub mod Wholeness
 pub mod ExamplesRows

@@ -1,10 +1,10 @@
 -- A store leaves what stands elsewhere, so what reads elsewhere comes to the same; a call of a pure function sees its actuals
 -- alone.
-use Rattle.std.proofs.Common.{◌≡◌, refl, sym, ap, ◌∙◌, subst, inl, inr, ℕ, zero, suc, Bool, true, false, ◌&&◌, ◌||◌, List, [], ◌∷◌}
+use Rattle.std.proofs.Common.{◌≡◌, refl, sym, ap, ◌∙◌, subst, inl, inr, ℕ, zero, suc, Bool, true, false, ◌&&◌, List, [], ◌∷◌}
 use Rattle.std.proofs.Common.{length}
 use Rattle.std.specs.Prelude.{Option, Some, None, nat_eq, slice_index_or, slice_set, Result, Ok, Err}
 use Rattle.std.specs.List.{list_any}
-use Rattle.std.proofs.lemmas.Bool.{cases_eq, cases_lt, eq-eqb, eqb-false, not-true}
+use Rattle.std.proofs.lemmas.Bool.{cases_eq, cases_lt, eq-eqb, eqb-false, not-true, or_parts}
 use Rattle.std.proofs.lemmas.List.{get_or-set_same, get_or-set_other}
 use Rattle.std.proofs.Math.Seq.{set_out}
 use Rattle.a95_base.specs.declared.fault.FaultKind.{FaultKind}
@@ -25,16 +25,12 @@ use Rattle.array_meaning.proofs.PureCalls.{pure_functions_take_turns}
 
 -- ---- stores
 
-either_false : (a b : Bool) → (a || b) ≡ false → (a ≡ false) × (b ≡ false)
-either_false false b h = (refl, h)
-either_false true b h = cc
-
 stored_elsewhere : (blank : Scalar) (bytes : Substring) (stores : List (ℕ × Scalar)) (xs : List Scalar) (k : ℕ) (d : Scalar)
     → list_any (λ (store : ℕ × Scalar). nat_eq store.0 k) stores ≡ false
     → slice_index_or xs k d ≡ slice_index_or (with_stored blank bytes stores xs) k d
 stored_elsewhere blank bytes [] xs k d h = refl
 stored_elsewhere blank bytes (store ∷ stores) xs k d h =
-    let parts = either_false (nat_eq store.0 k) (list_any (λ (p : ℕ × Scalar). nat_eq p.0 k) stores) h in
+    let parts = or_parts (nat_eq store.0 k) (list_any (λ (p : ℕ × Scalar). nat_eq p.0 k) stores) h in
     let new : Scalar = changed blank bytes (slice_index_or xs store.0 blank) store.1 in
     sym (get_or-set_other xs store.0 k new d (λ e. eqb-false store.0 k parts.0 (sym e)))
     ∙ stored_elsewhere blank bytes stores (slice_set xs store.0 new) k d parts.1

@@ -1,97 +1,44 @@
--- One more turn: what ended comes out the same, and what was written while waiting begins what is written then. Each step is
--- compared with itself in a state that has one more turn left, or with one that may go on for one more round.
-use Rattle.std.proofs.Common.{◌≡◌, refl, sym, ℕ, zero, suc, Bool, true, false, List, [], ◌++◌, append_assoc, append-nil}
+-- One more turn, for the steps of a source's run.
+use Rattle.std.proofs.Common.{◌≡◌, refl, ℕ, zero, suc, Bool, true, false, List}
 use Rattle.std.specs.Prelude.{Option, Some, None, Result, Ok, Err}
 use Rattle.a95_base.specs.declared.fault.FaultKind.{FaultKind}
 use Rattle.a95_base.specs.declared.scalar.Scalar.{Scalar}
-use Rattle.a95_base.specs.Steps.{Ran, pure, stop, behind, ◌>>=◌, ◌>>◌}
+use Rattle.a95_base.specs.Steps.{Ran, pure, stop}
 use Rattle.a95_base.specs.Outcome.{IsPrefix}
+use Rattle.a95_base.proofs.Turns as turns
+use Rattle.a95_base.proofs.Turns.{Clock, steady_by, prefix_refl}
 use Rattle.array_meaning.specs.State.{State, Halt, Stopped, Faults, OutOfTurns, Step, Array, Variable, fault_at, unless, choose}
 use Rattle.array_meaning.specs.State.{given, allocated_array, turn_from, turn, turns_left, variable, set_variable, Substring}
 use Rattle.array_meaning.specs.State.{store_all, put, unread, pass, back_to, inside}
 
--- ---- prefixes
-
-pub prefix_refl : {A : Type 0} (xs : List A) → IsPrefix xs xs
-prefix_refl xs = record { more = []; is = sym (append-nil xs) }
-
-pub prefix_trans : {A : Type 0} {xs ys zs : List A} → IsPrefix xs ys → IsPrefix ys zs → IsPrefix xs zs
-prefix_trans {xs = xs} h k = record { more = h.more ++ k.more; is = rw (k.is, h.is) (append_assoc xs h.more k.more) }
-
--- ---- the two relations
-
 abbrev pub more : State → State
 more s = record s { left = suc s.left }
 
--- what is written is only added to
-pub record Tells {A : Type 0} (m : Step A) : Type 0 where
-  pub tells : (s : State) → IsPrefix s.written (m s).after.written
+-- whether it waits for a turn
+abbrev pub waits : Halt → Bool
+waits OutOfTurns = true
+waits Stopped = false
+waits (Faults kind line) = false
+
+abbrev pub clock : Clock Halt State
+clock = record { more = more; written = λ s. s.written; waits = waits }
+
+abbrev pub Tells : {A : Type 0} → Step A → Type 0
+Tells m = turns.Tells clock m
 
 abbrev pub SameBy : {A : Type 0} → Result A Halt → State → Result A Halt → State → Type 0
-SameBy (Ok a) s came' s' = (came' ≡ Ok a) × (s' ≡ more s)
-SameBy (Err OutOfTurns) s came' s' = IsPrefix s.written s'.written
-SameBy (Err Stopped) s came' s' = (came' ≡ Err Stopped) × (s' ≡ more s)
-SameBy (Err (Faults kind line)) s came' s' = (came' ≡ Err (Faults kind line)) × (s' ≡ more s)
+SameBy came s came' s' = turns.SameBy clock came s came' s'
 
 abbrev pub Same : {A : Type 0} → Ran Halt State A → Ran Halt State A → Type 0
-Same r r' = SameBy r.came r.after r'.came r'.after
+Same r r' = turns.Same clock r r'
 
--- the second step, with one more turn, comes to the same as the first where that doesn't wait
-pub record Grows {A : Type 0} (m m' : Step A) : Type 0 where
-  pub grows : (s : State) → Same (m s) (m' (more s))
-  pub first : Tells m
-  pub second : Tells m'
+abbrev pub Grows : {A : Type 0} → Step A → Step A → Type 0
+Grows m m' = turns.Grows clock m m'
 
 abbrev pub Steady : {A : Type 0} → Step A → Type 0
-Steady m = Grows m m
-
-steady_by : {A : Type 0} {m : Step A} → ((s : State) → Same (m s) (m (more s))) →
-    ((s : State) → IsPrefix s.written (m s).after.written) → Steady m
-steady_by h t = record { grows = h; first = record { tells = t }; second = record { tells = t } }
-
--- ---- one step behind another
-
-tells_behind : {A B : Type 0} (f : A → Step B) → ((a : A) → Tells (f a)) → (came : Result A Halt) (s : State)
-    → IsPrefix s.written (behind f came s).after.written
-unfolding behind
-tells_behind f t (Ok a) s = (t a).tells s
-tells_behind f t (Err halt) s = prefix_refl s.written
-
-pub tells_then : {A B : Type 0} {m : Step A} {f : A → Step B} → Tells m → ((a : A) → Tells (f a)) → Tells (m >>= f)
-unfolding ◌>>=◌
-tells_then {m = m} {f = f} h t = record { tells = λ s. prefix_trans (h.tells s) (tells_behind f t (m s).came (m s).after) }
-
-grows_behind : {A B : Type 0} (f f' : A → Step B) → ((a : A) → Grows (f a) (f' a)) → (came : Result A Halt) (s : State)
-    (came' : Result A Halt) (s' : State)
-    → SameBy came s came' s' → Same (behind f came s) (behind f' came' s')
-unfolding behind
-grows_behind f f' g (Ok a) s came' s' h = rw (h.0, h.1) ((g a).grows s)
-grows_behind f f' g (Err OutOfTurns) s came' s' h = prefix_trans h (tells_behind f' (λ a. (g a).second) came' s')
-grows_behind f f' g (Err Stopped) s came' s' h = rw (h.0, h.1) (refl, refl)
-grows_behind f f' g (Err (Faults kind line)) s came' s' h = rw (h.0, h.1) (refl, refl)
-
-pub grows_then : {A B : Type 0} {m m' : Step A} {f f' : A → Step B} → Grows m m' → ((a : A) → Grows (f a) (f' a)) → Grows
-    (m >>= f) (m' >>= f')
-unfolding ◌>>=◌
-grows_then {m = m} {m' = m'} {f = f} {f' = f'} h g = record {
-  grows = λ s. grows_behind f f' g (m s).came (m s).after (m' (more s)).came (m' (more s)).after (h.grows s);
-  first = tells_then h.first (λ a. (g a).first);
-  second = tells_then h.second (λ a. (g a).second);
-}
-
-pub grows_next : {A B : Type 0} {m m' : Step A} {n n' : Step B} → Grows m m' → Grows n n' → Grows (m >> n) (m' >> n')
-unfolding ◌>>◌ ◌>>=◌
-grows_next {m = m} {m' = m'} {n = n} {n' = n'} h g = record {
-  grows = λ s. grows_behind (λ a. n) (λ a. n') (λ a. g) (m s).came (m s).after (m' (more s)).came (m' (more s)).after (h.grows s);
-  first = record { tells = (tells_then {f = λ a. n} h.first (λ a. g.first)).tells };
-  second = record { tells = (tells_then {f = λ a. n'} h.second (λ a. g.second)).tells };
-}
+Steady m = turns.Steady clock m
 
 -- ---- steps that look at no turn
-
-pub steady_pure : {A : Type 0} (a : A) → Steady (pure a)
-unfolding pure
-steady_pure a = steady_by (λ s. (refl, refl)) (λ s. prefix_refl s.written)
 
 pub steady_fault : {A : Type 0} (kind : FaultKind) (line : ℕ) → Steady (fault_at {A = A} kind line)
 unfolding fault_at stop

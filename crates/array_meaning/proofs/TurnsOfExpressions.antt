@@ -2,6 +2,7 @@
 use Rattle.std.proofs.Common.{ℕ, ℤ, zero, suc, ◌+ℤ◌, Bool, true, false, List, [], ◌∷◌, ◌++◌}
 use Rattle.std.specs.Prelude.{Option}
 use Rattle.a95_base.specs.declared.scalar.Scalar.{Scalar}
+use Rattle.a95_base.proofs.Turns.{grows_then, grows_next, steady_pure}
 use Rattle.f95_unit.specs.declared.operation.Inquiry.{Inquiry}
 use Rattle.f95_unit.specs.declared.operation.Inquiry.TheVariants as inquiry
 use Rattle.f95_unit.specs.declared.operation.Reduction.{Reduction}
@@ -18,7 +19,7 @@ use Rattle.array_meaning.specs.Trees.{elements, all_from, masked_from, pairs_fro
 use Rattle.array_meaning.specs.Expressions.{number_of_value, rounds, gathered, asked, prepare, trees, values, actuals}
 use Rattle.array_meaning.specs.Expressions.{reduction_values, answer, designate, pick, pick_each, pick_one, bound_or, part_bounds}
 use Rattle.array_meaning.specs.Expressions.{gather, evaluate, integer, truth}
-use Rattle.array_meaning.proofs.Turns.{Steady, grows_then, grows_next, steady_pure, steady_unless, steady_given, steady_allocated}
+use Rattle.array_meaning.proofs.Turns.{Steady, steady_unless, steady_given, steady_allocated}
 use Rattle.array_meaning.proofs.Turns.{steady_variable, steady_turn, grows_choose}
 
 -- what is done to a call that is compared with itself

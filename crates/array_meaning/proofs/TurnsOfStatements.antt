@@ -4,6 +4,8 @@ use Rattle.std.specs.Prelude.{map, Option, Some, None, Result, Ok, Err}
 use Rattle.a95_base.specs.declared.scalar.Scalar.{Scalar}
 use Rattle.a95_base.specs.Input.{Reading, Integer, NoMore, NoInteger}
 use Rattle.a95_base.specs.Outcome.{Stop as Ending, Outcome, Finished, Going, Run, IsPrefix}
+use Rattle.a95_base.proofs.Turns.{prefix_refl, prefix_trans, grows_then, grows_next, steady_pure}
+use Rattle.array_meaning.proofs.TurnsOfFlow.{grows_behind_turn, steady_behind}
 use Rattle.f95_unit.specs.declared.unit.DeclaredType.{DeclaredType}
 use Rattle.f95_unit.specs.declared.unit.Role.{Role}
 use Rattle.f95_unit.specs.declared.unit.Role.TheVariants as role
@@ -21,13 +23,13 @@ use Rattle.array_meaning.specs.Assignments.{Control, with_truths, both, but_not,
 use Rattle.array_meaning.specs.Assignments.{masked_act, others_act, index_lists, active_of, active, one_combination}
 use Rattle.array_meaning.specs.Assignments.{each_combination, indexed, forall_acts}
 use Rattle.array_meaning.specs.InputOutput.{taken, next_integer, read_places, skip_record, printed, prints, read_items, reads}
-use Rattle.array_meaning.specs.Control.{Flow, Next, Exits, Cycles, Returns, behind, behind_turn, one_turn, counted, while_true}
+use Rattle.array_meaning.specs.Control.{Flow, behind, one_turn, counted, while_true}
 use Rattle.array_meaning.specs.Control.{dimensions, allocates, deallocates, ends, acts, all_act, branch_acts, case_acts}
 use Rattle.array_meaning.specs.Calls.{Actuals, passed_at, lower_bounds, bounds_act, own_acts, declaration_acts, declarations_act}
 use Rattle.array_meaning.specs.Calls.{initial_of, initial_acts, initials_act, body_acts, copy_back, copies_back, entered, called}
 use Rattle.array_meaning.specs.Run.{most_calls, start, outcome_of, run_of, main_acts, source_run}
 use Rattle.array_meaning.specs.RunLaws.{StaysBy, Stays, MoreTurns}
-use Rattle.array_meaning.proofs.Turns.{prefix_refl, prefix_trans, SameBy, Steady, Grows, grows_then, grows_next, steady_pure}
+use Rattle.array_meaning.proofs.Turns.{SameBy, Steady, Grows}
 use Rattle.array_meaning.proofs.Turns.{steady_fault, steady_stopped, steady_unless, steady_given, steady_allocated, steady_variable}
 use Rattle.array_meaning.proofs.Turns.{steady_set, steady_store, steady_put, steady_unread, steady_pass, grows_choose, steady_turn}
 use Rattle.array_meaning.proofs.Turns.{grows_waits, tells_waits, steady_turns_left, grows_inside}
@@ -158,21 +160,6 @@ module _ (unit : Program) (calls : Caller) (line : ℕ) (same : SteadyCalls call
   steady_reads targets = grows_then (steady_read_items false targets) (λ behind. steady_skip line behind)
 
 -- ---- loops
-
-steady_behind : (flow : Flow) {more : Step Flow} → Steady more → Steady (behind flow more)
-steady_behind Next h = h
-steady_behind (Exits out) h = steady_pure _
-steady_behind (Cycles out) h = steady_pure _
-steady_behind Returns h = steady_pure _
-
-grows_behind_turn : (flow : Flow) {more more' : Step Flow} → Grows more more' → Grows (behind_turn flow more)
-    (behind_turn flow more')
-grows_behind_turn Next h = h
-grows_behind_turn (Cycles zero) h = h
-grows_behind_turn (Cycles (suc out)) h = steady_pure _
-grows_behind_turn (Exits zero) h = steady_pure _
-grows_behind_turn (Exits (suc out)) h = steady_pure _
-grows_behind_turn Returns h = steady_pure _
 
 grows_turn : {body more more' : Step Flow} → Steady body → Grows more more' → Grows (one_turn body more) (one_turn body more')
 grows_turn h g = grows_next steady_turn (grows_then h (λ flow. grows_behind_turn flow g))

@@ -6,7 +6,7 @@ use Rattle.std.specs.Ordering.{int_eq, is_eq, is_le, is_ge}
 use Rattle.a95_base.specs.declared.fault.FaultKind.TheVariants as fault
 use Rattle.a95_base.specs.declared.scalar.Scalar.{Scalar}
 use Rattle.a95_base.specs.declared.scalar.Scalar.TheVariants as scalar
-use Rattle.a95_base.specs.Steps.{pure, stop, ◌>>=◌, ◌>>◌}
+use Rattle.a95_base.specs.Steps.{Ran, pure, stop, ◌>>=◌, ◌>>◌}
 use Rattle.a95_base.specs.Integer.{wrapped}
 use Rattle.a95_base.specs.Limits.{most_elements}
 use Rattle.f95_unit.specs.declared.stmt.Range.{Range}
@@ -32,19 +32,21 @@ pub data Flow : Type 0 where
   Cycles : (out : ℕ) → Flow
   Returns : Flow
 
--- behind one turn of a DO
-abbrev pub behind_turn : Flow → Step Flow → Step Flow
-behind_turn Next more = more
-behind_turn (Cycles zero) more = more
-behind_turn (Cycles (suc out)) more = pure (Cycles out)
-behind_turn (Exits zero) more = pure Next
-behind_turn (Exits (suc out)) more = pure (Exits out)
-behind_turn Returns more = pure Returns
+-- what comes behind, for steps on any state
+module _ {E S : Type 0} where
+  -- behind one turn of a DO
+  abbrev pub behind_turn : Flow → (S → Ran E S Flow) → S → Ran E S Flow
+  behind_turn Next more = more
+  behind_turn (Cycles zero) more = more
+  behind_turn (Cycles (suc out)) more = pure (Cycles out)
+  behind_turn (Exits zero) more = pure Next
+  behind_turn (Exits (suc out)) more = pure (Exits out)
+  behind_turn Returns more = pure Returns
 
--- behind a statement of a list
-abbrev pub behind : Flow → Step Flow → Step Flow
-behind Next more = more
-behind flow more = pure flow
+  -- behind a statement of a list
+  abbrev pub behind : Flow → (S → Ran E S Flow) → S → Ran E S Flow
+  behind Next more = more
+  behind flow more = pure flow
 
 abbrev pub one_turn : Step Flow → Step Flow → Step Flow
 one_turn body more = do

@@ -1,8 +1,6 @@
 -- Numbers of a few digits.
-use Rattle.std.proofs.Common.{◌≡◌, ℕ, suc, ◌+◌, ◌-◌, ◌*◌, ◌^◌, ◌<◌, ◌≤◌, List, [], ◌∷◌, length, refl, arith}
-use Rattle.std.specs.List.{list_all}
+use Rattle.std.proofs.Common.{ℕ, suc, ◌+◌, ◌-◌, ◌*◌, ◌^◌, ◌<◌, ◌≤◌, arith}
 use Rattle.std.proofs.Math.Nat.{pow-le-pow_right, pow-suc}
-use Rattle.a95_base.specs.Input.{is_digit, is_number}
 
 -- one digit more
 abbrev pub with_digit : ℕ → ℕ → ℕ
@@ -13,7 +11,3 @@ pub room : (i n : ℕ) → i < 38 → n < 10 ^ i → 10 * n + 10 ≤ 10 ^ 38
 room i n few small =
     let most : 10 ^ suc i ≤ 10 ^ 38 = pow-le-pow_right {n = 10} (omega arith) {i = suc i} {j = 38} (omega (arith, few)) in
     omega (arith, small, most, pow-suc 10 i)
-
-pub is_number-some : (digits : List ℕ) → 0 < length digits → is_number digits ≡ list_all is_digit digits
-is_number-some [] h = absurd (omega arith)
-is_number-some (c ∷ cs) h = refl

@@ -1,16 +1,16 @@
 -- An INTEGER that an operation gives.
-use Rattle.std.proofs.Common.{◌≡◌, ◌≢◌, ◌<◌, ℤ, pos, ◌+ℤ◌, ◌*ℤ◌, ◌^◌, Bool, true, false, Option, Some, None, FitsSigned, SomeIff}
+use Rattle.std.proofs.Common.{◌≡◌, ◌≢◌, ℤ, pos, ◌+ℤ◌, ◌*ℤ◌, ◌^◌, Bool, true, false, Option, Some, None, FitsSigned, SomeIff}
 use Rattle.std.proofs.Common.{w32, refl, sym, ap, ◌∙◌, arith}
-use Rattle.std.specs.Prelude.{negsuc, int_div, if◌then◌else◌}
+use Rattle.std.specs.Prelude.{int_div, if◌then◌else◌}
 use Rattle.std.specs.Int.{IsNonZero, CanDivide}
 use Rattle.std.specs.Ordering.{int_eq}
 use Rattle.std.proofs.lemmas.Bool.{false_from_ne_true}
 use Rattle.std.proofs.lemmas.Bool.Decides.{Decides-int_eq}
 use Rattle.std.proofs.lemmas.Int.{ints}
 use Rattle.a95_base.specs.Integer.{wrapped}
-use Rattle.a95_base.specs.IntegerLaws.{IsInteger}
 use Rattle.a95_base.specs.declared.scalar.Scalar.TheVariants as scalar
 use Rattle.a95_base.proofs.Wrapping.{wrapped_is_the_one}
+use Rattle.a95_base.proofs.Integers.{fits_integer, integer_fits}
 use Rattle.constant_operators.specs.declared.value.Worth.{Worth}
 use Rattle.constant_operators.specs.declared.value.Worth.TheVariants.{Is, Spoilt}
 use Rattle.constant_operators.specs.Operators.{within, integer_or_spoilt, quotient_within}
@@ -34,15 +34,6 @@ known_or_spoilt : (b : Bool) (z : ℤ) → ((if b then Is (scalar.Int z) else Sp
     → (if b then Is (scalar.Int z) else Spoilt) ≡ Spoilt
 known_or_spoilt true z h = absurd (h refl)
 known_or_spoilt false z h = refl
-
--- what 32 bits hold
-pub fits_integer : (z : ℤ) → FitsSigned w32 z → IsInteger z
-fits_integer (pos n) f = let h : n < 2147483648 = f.sfits in (omega (arith, ints), omega (arith, ints))
-fits_integer (negsuc n) f = let h : n < 2147483648 = f.sfits in (omega (arith, ints), omega (arith, ints))
-
-pub integer_fits : (z : ℤ) → IsInteger z → FitsSigned w32 z
-integer_fits (pos n) h = let g : n < 2147483648 = omega (arith, ints, h.1) in record { sfits = g }
-integer_fits (negsuc n) h = let g : n < 2147483648 = omega (arith, ints, h.0) in record { sfits = g }
 
 pub same_two : (f : ℤ → ℤ → ℤ) (a b x y : ℤ) → a ≡ x → b ≡ y → f a b ≡ f x y
 same_two f a b x y e h = ap (λ z. f z b) e ∙ ap (λ z. f x z) h

@@ -5,11 +5,15 @@ use Rattle.std.specs.Prelude.{slice_get, nat_lt, nat_le, decimal, IfSome, IfNone
 use Rattle.std.specs.List.{list_all, position_from}
 use Rattle.std.specs.Option.{is_some}
 use Rattle.std.proofs.lemmas.Bool.Decides.{Decides-ltb, Decides-eqb, nat_tests}
-use Rattle.std.proofs.lemmas.Bool.{leb-true, le-leb}
-use Rattle.std.proofs.lemmas.Fmt.{decimal_digit, digits_decimal, digits_value-decimal, decimal-digits_value}
+use Rattle.std.proofs.lemmas.Bool.{leb-true, le-leb, and_parts}
+use Rattle.std.proofs.lemmas.Fmt.{digits_decimal, digits_value-decimal, decimal-digits_value}
 use Rattle.std.proofs.lemmas.Slice.Eq.{bytes_eq-Decides}
 use Rattle.std.proofs.lemmas.Str.Parse.{IsDigitsTest, IsNumeralModel, numerals_by_fold}
 use Rattle.std.specs.Int.{IsInRange}
+use Rattle.std.proofs.lemmas.Option.{same_Some, none-some}
+use Rattle.a95_base.proofs.Tests.{next_place}
+use Rattle.a95_base.proofs.Texts.{some_number}
+use Rattle.a95_base.specs.Input.{is_digit}
 use Rattle.f95_tree.specs.Forms.{Word}
 use Rattle.intrinsic_table.specs.declared.intrinsic.Intrinsic.{Intrinsic}
 use Rattle.intrinsic_table.specs.Finding.{is_word}
@@ -19,17 +23,7 @@ use Rattle.intrinsic_table.specs.Table.{Arguments, Takes, Numbered, row_of}
 use Rattle.intrinsic_table.specs.TableLaws.{argument_count}
 use Rattle.intrinsic_table.proofs.Keywords.{numbered_is, is_numbered, keywords_differ, places_are_counted}
 use Rattle.intrinsic_table.proofs.Numerals.{decimal_begins}
-use Rattle.names_types.specs.Keywords.{number_written, is_digit, is_numeral, numbered_place, keyword_place_in, keyword_place}
-
-both : (a b : Bool) → (a && b) ≡ true → (a ≡ true) × (b ≡ true)
-both true b e = (refl, e)
-both false b e = absurd (let z : ⊥ = cc in z)
-
-some_same : {A : Type 0} (x y : A) → Some x ≡ Some y → x ≡ y
-some_same x y e = cc
-
-none_some : {A : Type 0} (x : A) → None ≡ Some x → ⊥
-none_some x e = cc
+use Rattle.names_types.specs.Keywords.{number_written, is_numeral, numbered_place, keyword_place_in, keyword_place}
 
 -- ---- keywords in a list
 
@@ -37,17 +31,14 @@ record Found (w : Word) (ws : List Word) (i q : ℕ) : Type 0 where
   behind : i ≤ q
   stands : slice_get ws (q - i) ≡ Some w
 
-next_place : (i q : ℕ) → i + 1 ≤ q → q - i ≡ suc (q - (i + 1))
-next_place i q h = omega arith
-
 found : (w : Word) (ws : List Word) (i q : ℕ) → position_from (is_word w) i ws ≡ Some q → Found w ws i q
-found w [] i q e = absurd (none_some q e)
+found w [] i q e = absurd (none-some q e)
 found w (x ∷ xs) i q e = by (is_word w x) refl e (found w xs (i + 1) q)
   where
     by : (b : Bool) → is_word w x ≡ b → cond b (Some i) (position_from (is_word w) (i + 1) xs) ≡ Some q
         → (position_from (is_word w) (i + 1) xs ≡ Some q → Found w xs (i + 1) q) → Found w (x ∷ xs) i q
     by true is e next =
-        let same : i ≡ q = some_same i q e in
+        let same : i ≡ q = same_Some i q e in
         let here : q - i ≡ 0 = omega arith in
         let word : w ≡ x = (bytes_eq-Decides w x).0 is in
         record { behind = omega arith; stands = ap (λ n. slice_get (x ∷ xs) n) here ∙ ap Some (sym word) }
@@ -60,15 +51,15 @@ found w (x ∷ xs) i q e = by (is_word w x) refl e (found w xs (i + 1) q)
         }
 
 nowhere : (w : Word) (ws : List Word) (i p : ℕ) → position_from (is_word w) i ws ≡ None → slice_get ws p ≡ Some w → ⊥
-nowhere w [] i p e f = none_some w f
+nowhere w [] i p e f = none-some w f
 nowhere w (x ∷ xs) i p e f = by (is_word w x) refl e p f (nowhere w xs (i + 1))
   where
     by : (b : Bool) → is_word w x ≡ b → cond b (Some i) (position_from (is_word w) (i + 1) xs) ≡ None → (p : ℕ)
         → slice_get (x ∷ xs) p ≡ Some w
         → ((k : ℕ) → position_from (is_word w) (i + 1) xs ≡ None → slice_get xs k ≡ Some w → ⊥) → ⊥
-    by true is e p f next = none_some i (sym e)
+    by true is e p f next = none-some i (sym e)
     by false is e zero f next =
-        let same : is_word w x ≡ true = (bytes_eq-Decides w x).1 (sym (some_same x w f)) in
+        let same : is_word w x ≡ true = (bytes_eq-Decides w x).1 (sym (same_Some x w f)) in
         true≢false (sym same ∙ is)
     by false is e (suc p) f next = next p e f
 
@@ -84,7 +75,7 @@ tells = record { empty = refl; parts = parts; more = more }
     digit c k = let low : 48 ≤ c = k.0 in let high : c ≤ 57 = k.1 in grind (arith, nat_tests)
 
     parts : (c : ℕ) (cs : List ℕ) → list_all is_digit (c ∷ cs) ≡ true → IsInRange 48 57 c × (list_all is_digit cs ≡ true)
-    parts c cs e = let k = both (is_digit c) (list_all is_digit cs) e in (in_range c k.0, k.1)
+    parts c cs e = let k = and_parts (is_digit c) (list_all is_digit cs) e in (in_range c k.0, k.1)
 
     more : (c : ℕ) (cs : List ℕ) → IsInRange 48 57 c → list_all is_digit cs ≡ true → list_all is_digit (c ∷ cs) ≡ true
     more c cs k e = ap (λ b. b && list_all is_digit cs) (digit c k) ∙ e
@@ -100,29 +91,22 @@ record Begun (ds : List ℕ) : Type 0 where
 begun : (ds : List ℕ) → begins_number ds ≡ true → Begun ds
 begun [] h = absurd (let z : ⊥ = cc in z)
 begun (d ∷ more) h =
-    record { low = let k = both (nat_le 49 d) (nat_le d 57) h in grind (arith, nat_tests, k.0); some = omega arith }
+    record { low = let k = and_parts (nat_le 49 d) (nat_le d 57) h in grind (arith, nat_tests, k.0); some = omega arith }
 
 record Numeral (ds : List ℕ) : Type 0 where
   positive : 0 < number_written ds
   small : number_written ds ≤ most_numbered
   written : decimal (number_written ds) ≡ ds
 
-not_nought : (n : ℕ) (ds : List ℕ) → decimal n ≡ ds → 49 ≤ get_or ds 0 0 → 0 < n
-not_nought zero ds e h =
-    let z : decimal 0 ≡ 48 ∷ [] = decimal_digit 0 (omega arith) in
-    let first : get_or ds 0 0 ≡ 48 = ap (λ xs. get_or xs 0 0) (sym e ∙ z) in
-    absurd (omega arith)
-not_nought (suc n) ds e h = omega arith
-
 numeral : (ds : List ℕ) → is_numeral ds ≡ true → Numeral ds
 numeral ds h =
-    let first = both (begins_number ds) (list_all is_digit ds && nat_le (number_written ds) most_numbered) h in
-    let second = both (list_all is_digit ds) (nat_le (number_written ds) most_numbered) first.1 in
+    let first = and_parts (begins_number ds) (list_all is_digit ds && nat_le (number_written ds) most_numbered) h in
+    let second = and_parts (list_all is_digit ds) (nat_le (number_written ds) most_numbered) first.1 in
     let b = begun ds first.0 in
     let small : number_written ds ≤ most_numbered = leb-true (number_written ds) most_numbered second.1 in
     let written : decimal (number_written ds) ≡ ds =
     decimal-digits_value numerals ds second.0 b.some (λ nought. absurd (omega (arith, nought, b.low))) (omega arith) in
-    record { positive = not_nought (number_written ds) ds written b.low; small = small; written = written }
+    record { positive = some_number (number_written ds) ds written b.low; small = small; written = written }
 
 is_a_numeral : (n : ℕ) → 0 < n → n ≤ most_numbered → is_numeral (decimal n) ≡ true
 is_a_numeral n some small =
@@ -135,20 +119,20 @@ is_a_numeral n some small =
     ∙ (ap (λ b. b && nat_le (number_written (decimal n)) most_numbered) digits ∙ below)
 
 numbered_found : (w : Word) (p : ℕ) → numbered_place w ≡ Some p → keyword_in Numbered p ≡ Some w
-numbered_found [] p e = absurd (none_some p e)
+numbered_found [] p e = absurd (none-some p e)
 numbered_found (letter ∷ ds) p e = by (letter == 97) (is_numeral ds) refl refl e
   where
     by : (a b : Bool) → (letter == 97) ≡ a → is_numeral ds ≡ b → (if a && b then Some (number_written ds - 1) else None) ≡ Some p
         → keyword_in Numbered p ≡ Some (letter ∷ ds)
     by true true is n e =
         let d = numeral ds n in
-        let same : number_written ds - 1 ≡ p = some_same (number_written ds - 1) p e in
+        let same : number_written ds - 1 ≡ p = same_Some (number_written ds - 1) p e in
         let next : p + 1 ≡ number_written ds = omega (arith, same, d.positive) in
         let first : 97 ≡ letter = sym ((Decides-eqb letter 97).0 is) in
         is_numbered p (omega (arith, next, d.small)) ∙ ap Some
         (ap (λ n. 97 ∷ decimal n) next ∙ ap (λ xs. 97 ∷ xs) d.written ∙ ap (λ c. c ∷ ds) first)
-    by true false is n e = absurd (none_some p e)
-    by false b is n e = absurd (none_some p e)
+    by true false is n e = absurd (none-some p e)
+    by false b is n e = absurd (none-some p e)
 
 numbered_at : (p : ℕ) → p < most_numbered → numbered_place (97 ∷ decimal (p + 1)) ≡ Some p
 numbered_at p h =
@@ -160,9 +144,9 @@ numbered_at p h =
 numbered_nowhere : (w : Word) (p : ℕ) → numbered_place w ≡ None → keyword_in Numbered p ≡ Some w → ⊥
 numbered_nowhere w p e f =
     let is = numbered_is p w f in
-    none_some p (sym e ∙ ap numbered_place is.spelled ∙ numbered_at p is.below)
+    none-some p (sym e ∙ ap numbered_place is.spelled ∙ numbered_at p is.below)
 
--- ---- both
+-- ---- and_parts
 
 stands : (a : Arguments) (w : Word) (p : ℕ) → keyword_place_in a w ≡ Some p → keyword_in a p ≡ Some w
 stands (Takes needed optional) w p e =

@@ -3,9 +3,10 @@ use Rattle.std.proofs.Common.{◌≡◌, ◌<◌, ℤ, pos, Option, Some, None, 
 use Rattle.std.specs.Prelude.{negsuc, neg_ℤ, unsigned_abs}
 use Rattle.std.proofs.lemmas.Int.{ints}
 use Rattle.a95_base.specs.declared.scalar.Scalar.TheVariants as scalar
+use Rattle.a95_base.proofs.Integers.{fits_integer, integer_fits}
 use Rattle.constant_operators.specs.declared.value.Worth.TheVariants.{Is}
 use Rattle.constant_operators.specs.Operators.{within, integer_or_spoilt}
-use Rattle.constant_operators.proofs.Within.{checked_is, known_within, fits_integer, integer_fits}
+use Rattle.constant_operators.proofs.Within.{checked_is, known_within}
 
 -- the absolute value fits exactly where the negative does
 fits_more : (x : ℤ) → FitsSigned w32 x → FitsSigned w32 (neg_ℤ x) → FitsSigned w32 (pos (unsigned_abs x))

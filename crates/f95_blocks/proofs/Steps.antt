@@ -1,13 +1,13 @@
 -- What is noted at a step, along a run and at the end, and what it says of the whole.
-use Rattle.std.proofs.Common.{◌≡◌, ℕ, ◌<◌, Bool, true, false, nat_lt, List, [], ◌∷◌, ◌++◌, Option, Some, None, ◌∙◌, ap, refl, sym}
+use Rattle.std.proofs.Common.{◌≡◌, ℕ, Bool, nat_lt, List, [], ◌∷◌, ◌++◌, Some, None, ◌∙◌, ap, refl, sym}
 use Rattle.std.proofs.Common.{subst, length, append_assoc, append-nil, arith}
 use Rattle.a95_base.specs.declared.source.Line.{Line}
 use Rattle.a95_base.specs.declared.source.Rule.{Rule}
 use Rattle.a95_base.specs.declared.source.PhaseError.TheVariants.{Broken}
 use Rattle.a95_base.specs.declared.breaks.Break.{Break}
-use Rattle.a95_base.specs.Breaks.{broken_at, first_of, IsLeast}
+use Rattle.a95_base.specs.Breaks.{broken_at, first_of, IsLeast, noted}
 use Rattle.a95_base.specs.Rules.{wrong_construct_name, too_many_blocks}
-use Rattle.a95_base.specs.Lists.{Member}
+use Rattle.a95_base.proofs.First.{no_break, none_among}
 use Rattle.f95_tree.specs.declared.form.Form.{Form}
 use Rattle.f95_tree.specs.declared.source.Module.{Module}
 use Rattle.f95_nesting.specs.declared.open.Place.{Place}
@@ -16,7 +16,7 @@ use Rattle.f95_nesting.specs.declared.open.State.TheVariants as state
 use Rattle.f95_nesting.specs.Placed.{Placed, differs}
 use Rattle.f95_nesting.specs.Nesting.{Lined, IsBroken, Refuses, most_blocks}
 use Rattle.f95_nesting.specs.Machine.{place_move, move, run, start, mark, end_name, depth_at, place_name, place_depth}
-use Rattle.f95_nesting.specs.Breaks.{noted, then_breaks, step_breaks, passed, end_breaks, breaks}
+use Rattle.f95_nesting.specs.Breaks.{then_breaks, step_breaks, passed, end_breaks, breaks}
 use Rattle.f95_blocks.specs.Units.{noted_in_place, noted_of}
 use Rattle.f95_nesting.proofs.Judged.{is_broken}
 use Rattle.f95_nesting.proofs.Least.{passed_goes, parts_empty, first_noted}
@@ -50,13 +50,6 @@ pub passed_end : (bs : List Break) (s : State) (l : List Lined) → length l ≡
 passed_end bs s [] e = append-nil bs
 passed_end bs s (f ∷ fs) e = absurd (omega arith)
 
-first_some : (b : Break) (bs : List Break) → first_of (b ∷ bs) ≡ None → ⊥
-first_some b bs e = absurd (cc)
-
-none_noted : (bs : List Break) → first_of bs ≡ None → bs ≡ []
-none_noted [] e = refl
-none_noted (b ∷ bs) e = absurd (first_some b bs e)
-
 goes_ends : (feeds : ℕ) (s : State) → (ms : List Module) (p : Place) → s ≡ state.Goes ms p → end_breaks feeds s ≡ [] → ⊥
 goes_ends feeds s ms p is none = let e : end_breaks feeds (state.Goes ms p) ≡ [] =
     ap (end_breaks feeds) (sym is) ∙ none in absurd (cc)
@@ -66,20 +59,16 @@ pub none_goes : (forms : List Lined) (feeds : ℕ) (ms : List Module) (p : Place
     → run start forms ≡ state.Goes ms p → ⊥
 none_goes forms feeds ms p none is =
     goes_ends feeds (run start forms) ms p is
-    (parts_empty (passed start forms) (end_breaks feeds (run start forms)) (none_noted (breaks forms feeds) none)).1
+    (parts_empty (passed start forms) (end_breaks feeds (run start forms)) (no_break (breaks forms feeds) none)).1
 
 pub none_stops : (forms : List Lined) (feeds : ℕ) → first_of (breaks forms feeds) ≡ None → run start forms ≡ state.Stops → ⊥
 none_stops forms feeds none is = passed_goes forms start (λ (z : start ≡ state.Stops). absurd (cc))
-    (parts_empty (passed start forms) (end_breaks feeds (run start forms)) (none_noted (breaks forms feeds) none)).0 is
-
-no_member : (b : Break) (bs : List Break) → bs ≡ [] → Member bs b → ⊥
-no_member b [] is m = m
-no_member b (c ∷ cs) is m = absurd (cc)
+    (parts_empty (passed start forms) (end_breaks feeds (run start forms)) (no_break (breaks forms feeds) none)).0 is
 
 pub none_broken : (forms : List Lined) (feeds : ℕ) → first_of (breaks forms feeds) ≡ None → (line rule : ℕ)
     → IsBroken forms feeds line rule → ⊥
 none_broken forms feeds none line rule h =
-    no_member _ (breaks forms feeds) (none_noted (breaks forms feeds) none) (is_broken forms feeds line rule h)
+    none_among (breaks forms feeds) none (broken_at line rule) (is_broken forms feeds line rule h)
 
 -- the first that is noted is what a refusal names
 pub first_refuses : (forms : List Lined) (feeds : ℕ) (f : Break) (l : Line) (r : Rule)

@@ -2,7 +2,7 @@
 use Rattle.std.specs.Prelude.{ℕ, suc, Bool, true, false, List, [], ◌∷◌, ◌++◌, Option, Some, None}
 use Rattle.a95_base.specs.declared.source.Line.{Line}
 use Rattle.a95_base.specs.declared.breaks.Break.{Break}
-use Rattle.a95_base.specs.Breaks.{broken_at}
+use Rattle.a95_base.specs.Breaks.{broken_at, noted}
 use Rattle.a95_base.specs.Rules.{wrong_nesting, wrong_construct_name, too_many_blocks}
 use Rattle.f95_tree.specs.Forms.{Word}
 use Rattle.f95_tree.specs.declared.form.Form.{Form}
@@ -36,7 +36,6 @@ use Rattle.f95_nesting.specs.Machine.{
   end_host,
   end_procedure,
 }
-use Rattle.f95_nesting.specs.Breaks.{noted}
 use Rattle.f95_blocks.specs.declared.roles.Beginning.{Beginning}
 use Rattle.f95_blocks.specs.declared.roles.Beginning.TheVariants as beginning
 use Rattle.f95_blocks.specs.declared.roles.SectionForm.{SectionForm}

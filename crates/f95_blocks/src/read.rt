@@ -1,11 +1,11 @@
 //! A list of forms nested to a source, or refused by the first rule that it breaks.
 
 ghost use Rattle.std.specs.Prelude.{◌≡◌, ◌<◌, ◌++◌, ℕ, IfOk, IfErr, OnOk};
-ghost use Rattle.a95_base.specs.Breaks.{broken_at, first_of};
+ghost use Rattle.a95_base.specs.Breaks.{broken_at, first_of, noted};
 ghost use Rattle.f95_nesting.specs.declared.open.State.TheVariants.{Goes};
 ghost use Rattle.f95_nesting.specs.Nesting.{Nests, IsBroken, Refuses};
 ghost use Rattle.f95_nesting.specs.Machine.{place_move, move, run, start};
-ghost use Rattle.f95_nesting.specs.Breaks.{noted, step_breaks, passed, end_breaks, breaks};
+ghost use Rattle.f95_nesting.specs.Breaks.{step_breaks, passed, end_breaks, breaks};
 ghost use Rattle.f95_blocks.specs.Units.{noted_in_place, noted_of};
 
 use crate::mark::{differs, end_name, is_deep, place_depth, place_name};

@@ -2,11 +2,10 @@
 use Rattle.std.proofs.Common.{◌≡◌, ◌≤◌, true, false, ◌&&◌, List, [], ◌∷◌, ◌++◌, map, Option, Some, None, sym, ◌∙◌, ap, subst, refl}
 use Rattle.std.proofs.Common.{append_assoc, append-nil, arith}
 use Rattle.std.specs.Prelude.{option_map, option_and_then, if◌then◌else◌}
-use Rattle.std.proofs.lemmas.Bool.{leb-true, le-leb}
+use Rattle.std.proofs.lemmas.Bool.{leb-true, le-leb, and_parts}
 use Rattle.a95_base.specs.Lists.{Every}
 use Rattle.f95_tree.specs.declared.expression.Expression.{Expression, roll-Expression, out-Expression}
 use Rattle.f95_tree.specs.declared.expression.Expression.TheVariants as e
-use Rattle.f95_tree.specs.declared.expression.Expression.TheViews.{out-roll-Expression, out-roll-Reference}
 use Rattle.f95_tree.specs.declared.expression.Expression.TheOpen as layer
 use Rattle.f95_tree.specs.declared.expression.Reference.{Reference, roll-Reference, out-Reference}
 use Rattle.f95_tree.specs.declared.expression.Reference.TheVariants as r
@@ -48,7 +47,7 @@ use Rattle.f95_expressions.specs.Machine.{Stack, Found, holds, did, collected, o
 use Rattle.f95_expressions.specs.Machine.{with_stage, within, is_nothing, items_of, filled, asked, operated, plain, field, fresh}
 use Rattle.f95_expressions.specs.Machine.{made, is_closed_by, step, run, item_of, value_of}
 use Rattle.f95_expressions.proofs.Table.{above, beyond, above_sign, stays, lets, lets_more, made_left, made_sign}
-use Rattle.f95_expressions.proofs.Lists.{both, onto, collected_all}
+use Rattle.f95_expressions.proofs.Lists.{onto, collected_all}
 use Rattle.f95_expressions.proofs.Fields.{behind, behind_field, stage_in, last_in, run_behind, step_behind, item_field_at}
 use Rattle.f95_expressions.proofs.Fields.{item_back, value_field, value_back, expression_field, item_field, parted_by, is_end}
 use Rattle.f95_expressions.proofs.Fields.{end_behind, item_text}
@@ -94,9 +93,9 @@ on_reference x h = as_node (e.Reference x) _ _ (grade-Reference x) (expression-R
 
 on_binary : (op : Operator) (a b : Expression) → Again a → Again b → Again (e.Binary op a b)
 on_binary op a b ha hb = as_node (e.Binary op a b) _ _ (grade-Binary op a b) (expression-Binary op a b) (λ s rest w h l.
-    let ws = both _ _ w in
-    let wa = both _ _ ws.0 in
-    let wb = both _ _ ws.1 in
+    let ws = and_parts _ _ w in
+    let wa = and_parts _ _ ws.0 in
+    let wb = and_parts _ _ ws.1 in
     let left : left_of op ≤ (grade a).0 = leb-true _ _ wa.0 in
     let right : right_of op ≤ (grade b).0 = leb-true _ _ wb.0 in
     ap (run (machine.Waits s)) (append_assoc (expression a) (terminal.Operator op ∷ expression b) rest)
@@ -117,7 +116,7 @@ signed_step sign.Not s rest h = ap (λ c. run (if c then machine.Waits (pending.
 
 on_signed : (g : Sign) (x : Expression) → Again x → Again (e.Signed g x)
 on_signed g x hx = as_node (e.Signed g x) _ _ (grade-Signed g x) (expression-Signed g x) (λ s rest w h l.
-    let wx = both _ _ w in
+    let wx = and_parts _ _ w in
     let under : under_sign g ≤ (grade x).0 = leb-true _ _ wx.0 in
     signed_step g s (expression x ++ rest) h
     ∙ hx (pending.Before g ∷ s) rest wx.1 under (lets_more (sign_level g) (grade x).0 rest (omega (arith, above_sign g)) l)
@@ -220,11 +219,11 @@ on_bracketed x hx = as_node (e.Bracketed x) _ _ (grade-Bracketed x) (expression-
 every_value : (vs : List Value) → Every ValueAgain vs → all (map well_value vs) ≡ true → FieldsAgain value_field vs
 every_value [] h w = tt
 every_value (x ∷ vs) h w =
-    let ws = both _ _ w in ((λ k d s rest l. h.0 k d None stage.Start s rest ws.0 l), every_value vs h.1 ws.1)
+    let ws = and_parts _ _ w in ((λ k d s rest l. h.0 k d None stage.Start s rest ws.0 l), every_value vs h.1 ws.1)
 
 every_item : (xs : List Item) → Every ItemAgain xs → all (map well_item xs) ≡ true → FieldsAgain item_field xs
 every_item [] h w = tt
-every_item (x ∷ xs) h w = let ws = both _ _ w in (h.0 ws.0, every_item xs h.1 ws.1)
+every_item (x ∷ xs) h w = let ws = and_parts _ _ w in (h.0 ws.0, every_item xs h.1 ws.1)
 
 constructor_made : (x : Value) (vs : List Value) (s : Stack) → made kind.Array (onto (map value_field (x ∷ vs)) []) s
     ≡ machine.Holds s (e.Constructor (x ∷ vs))
@@ -348,8 +347,8 @@ on_keyword n x hx w =
 
 on_triplet : (a b c : Option Expression) → Maybe Again a → Maybe Again b → Maybe Again c → ItemAgain (i.Triplet a b c)
 on_triplet a b c ha hb hc w =
-    let ws = both _ _ (sym (well_item-Triplet a b c) ∙ w) in
-    let vs = both _ _ ws.1 in
+    let ws = and_parts _ _ (sym (well_item-Triplet a b c) ∙ w) in
+    let vs = and_parts _ _ ws.1 in
     subst FieldAgain (sym (ap item_field_at (seen-Triplet a b c)))
     (field_reads None (spread.Triplet a b c) tt refl (triplet_spread a b c ha hb hc ws.0 vs.0 vs.1))
 
@@ -366,7 +365,7 @@ open_items : (s : Stack) (n : Word) (xs : List Item) (rest : Text) →
 open_items s n xs rest =
     ap (λ y. run (opened s y) rest) (seen-Reference (r.Items n xs)) ∙ ap (λ y. run (opened_reference s y) rest) (seen-Items n xs)
 
-within_long : (fs : List Field) (f g : Field) (d : List Field) → within (onto fs (f ∷ g ∷ d)) ≡ onto fs (f ∷ g ∷ d)
+pub within_long : (fs : List Field) (f g : Field) (d : List Field) → within (onto fs (f ∷ g ∷ d)) ≡ onto fs (f ∷ g ∷ d)
 within_long [] f g d = refl
 within_long (h ∷ fs) f g d = within_long fs h f (g ∷ d)
 
@@ -410,9 +409,9 @@ range_text a b rest =
 on_substring : (n : Word) (xs : List Item) (a b : Option Expression) → Every ItemAgain xs → Maybe Again a → Maybe Again b →
     ReferenceAgain (r.Substring n xs (a, b))
 on_substring n xs a b h ha hb s rest w =
-    let ws = both (all (map well_item xs)) (maybe_well (option_map grade a) && maybe_well (option_map grade b))
+    let ws = and_parts (all (map well_item xs)) (maybe_well (option_map grade a) && maybe_well (option_map grade b))
     (sym (well_reference-Substring n xs a b) ∙ w) in
-    let vs = both (maybe_well (option_map grade a)) (maybe_well (option_map grade b)) ws.1 in
+    let vs = and_parts (maybe_well (option_map grade a)) (maybe_well (option_map grade b)) ws.1 in
     let range = maybe (option_map expression a) ++ punctuated mark.Colon (maybe (option_map expression b)) in
     ap (λ t. run (machine.Waits s) (t ++ rest)) (reference-Substring n xs a b)
     ∙ ap (λ t. run (machine.Waits s) (terminal.Name n ∷ t))
@@ -523,10 +522,10 @@ on_implied : (vs : List Value) (n : Word) (a b : Expression) (c : Option Express
     Maybe Again c → ValueAgain (v.ImpliedDo vs n a b c)
 on_implied [] n a b c h ha hb hc k d left g s rest w l = absurd (empty_values n a b c w)
 on_implied (x ∷ vs) n a b c h ha hb hc k d left g s rest w l =
-    let ws = both (all (map well_value (x ∷ vs))) (well a && (well b && maybe_well (option_map grade c)))
+    let ws = and_parts (all (map well_value (x ∷ vs))) (well a && (well b && maybe_well (option_map grade c)))
     (sym (well_value-ImpliedDo (x ∷ vs) n a b c) ∙ w) in
-    let us = both (well a) (well b && maybe_well (option_map grade c)) ws.1 in
-    let ts = both (well b) (maybe_well (option_map grade c)) us.1 in
+    let us = and_parts (well a) (well b && maybe_well (option_map grade c)) ws.1 in
+    let ts = and_parts (well b) (maybe_well (option_map grade c)) us.1 in
     implied_read x vs n a b c h ha hb hc ws.0 us.0 ts.0 ts.1 (pending.Open k d left g ∷ s) rest
     ∙ ap (λ m. run m rest) (did_behind (pending.Open k d left g ∷ s) (x ∷ vs) n a b c)
 

@@ -1,21 +1,8 @@
 -- Lists put one item after another before others, and what is collected of them.
-use Rattle.std.proofs.Common.{◌≡◌, Bool, true, false, ◌&&◌, List, [], ◌∷◌, ◌++◌, map, Option, Some, ◌∙◌, ap, refl, append-nil}
+use Rattle.std.proofs.Common.{◌≡◌, List, [], ◌∷◌, ◌++◌, map, Option, Some, ◌∙◌, ap, refl, append-nil}
 use Rattle.std.specs.Prelude.{option_and_then}
 use Rattle.f95_expressions.specs.declared.pending.Field.{Field}
 use Rattle.f95_expressions.specs.Machine.{collected}
-
-pub both : (a b : Bool) → (a && b) ≡ true → (a ≡ true) × (b ≡ true)
-both true true h = (refl, refl)
-both true false h = absurd (cc)
-both false b h = absurd (cc)
-
-pub joined : (a b : Bool) → a ≡ true → b ≡ true → (a && b) ≡ true
-joined true b h g = g
-joined false b h g = absurd (cc)
-
-pub by_test : (P : Bool → Type 0) (b : Bool) → (b ≡ true → P true) → (b ≡ false → P false) → P b
-by_test P true holds fails = holds refl
-by_test P false holds fails = fails refl
 
 -- the items of the first list, one after another, before the second
 abbrev pub onto : {A : Type 0} → List A → List A → List A

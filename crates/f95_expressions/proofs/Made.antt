@@ -1,12 +1,13 @@
 -- What closed brackets make of their fields is spelled as they are, and well formed.
-use Rattle.std.proofs.Common.{◌≡◌, ℕ, ◌<◌, ◌≤◌, Bool, true, false, ◌&&◌, nat_le, List, [], ◌∷◌, ◌++◌, map, Option, Some, None, sym}
-use Rattle.std.proofs.Common.{◌∙◌, ap, subst, refl, append_assoc, append-nil, arith}
+use Rattle.std.proofs.Common.{◌≡◌, Bool, true, ◌&&◌, List, [], ◌∷◌, ◌++◌, map, Option, Some, None, sym}
+use Rattle.std.proofs.Common.{◌∙◌, ap, subst, refl, append_assoc, append-nil}
 use Rattle.std.specs.Prelude.{option_map, option_and_then, if◌then◌else◌}
-use Rattle.std.proofs.lemmas.Bool.{leb-true, le-leb}
-use Rattle.f95_tree.specs.declared.expression.Expression.{Expression, out-Expression}
+use Rattle.std.proofs.lemmas.Bool.{and_parts, and_from}
+use Rattle.a95_base.proofs.Tests.{by_test}
+use Rattle.f95_tree.specs.declared.expression.Expression.{Expression}
 use Rattle.f95_tree.specs.declared.expression.Expression.TheVariants as e
 use Rattle.f95_tree.specs.declared.expression.Expression.TheOpen as layer
-use Rattle.f95_tree.specs.declared.expression.Reference.{Reference, out-Reference}
+use Rattle.f95_tree.specs.declared.expression.Reference.{Reference}
 use Rattle.f95_tree.specs.declared.expression.Reference.TheVariants as r
 use Rattle.f95_tree.specs.declared.expression.Value.{Value}
 use Rattle.f95_tree.specs.declared.expression.Value.TheVariants as v
@@ -20,20 +21,16 @@ use Rattle.f95_tree.specs.declared.terminal.Sign.{Sign}
 use Rattle.f95_tree.specs.declared.terminal.Sign.TheVariants as sign
 use Rattle.f95_tree.specs.declared.terminal.Punctuation.{Punctuation}
 use Rattle.f95_tree.specs.declared.terminal.Punctuation.TheVariants as mark
-use Rattle.f95_tree.specs.Levels.{level, left_of, right_of, sign_level, under_sign}
-use Rattle.f95_tree.specs.Spelling.{Text, punctuated, behind_commas, commas, in_brackets, maybe, maybe_behind, sign_terminal}
-use Rattle.f95_tree.specs.Spelling.{expression, item, reference, value}
-use Rattle.f95_tree.specs.Grades.{Grade, all, some, maybe_well, grade, well, well_item, well_reference, well_value}
+use Rattle.f95_tree.specs.Spelling.{Text, punctuated, commas, in_brackets, maybe, maybe_behind}
+use Rattle.f95_tree.specs.Spelling.{expression, item, value}
+use Rattle.f95_tree.specs.Grades.{Grade, all, some, maybe_well, grade, well, well_item, well_value}
 use Rattle.f95_tree.specs.Forms.{Word}
-use Rattle.f95_tree.proofs.Nodes.{expression-Literal, expression-Reference, expression-Bracketed, expression-Constructor}
-use Rattle.f95_tree.proofs.Nodes.{expression-Signed, expression-Binary, item-Plain, item-Keyword, item-Triplet, reference-Whole}
-use Rattle.f95_tree.proofs.Nodes.{reference-Items, reference-Substring, value-One, value-ImpliedDo, grade-Literal, grade-Reference}
-use Rattle.f95_tree.proofs.Nodes.{grade-Bracketed, grade-Constructor, grade-Signed, grade-Binary, well_item-Plain}
+use Rattle.f95_tree.proofs.Nodes.{expression-Reference, expression-Bracketed, expression-Constructor}
+use Rattle.f95_tree.proofs.Nodes.{reference-Items, reference-Substring, value-One, value-ImpliedDo, grade-Reference}
+use Rattle.f95_tree.proofs.Nodes.{grade-Bracketed, grade-Constructor, well_item-Plain}
 use Rattle.f95_tree.proofs.Nodes.{well_item-Keyword, well_item-Triplet, well_reference-Whole, well_reference-Items}
 use Rattle.f95_tree.proofs.Nodes.{well_reference-Substring, well_value-One, well_value-ImpliedDo}
-use Rattle.f95_tree.proofs.Views.{seen-Literal, seen-Reference, seen-Bracketed, seen-Constructor, seen-Signed, seen-Binary}
-use Rattle.f95_tree.proofs.Views.{seen-Whole, seen-Items, seen-Substring}
-use Rattle.f95_tree.proofs.Induction.{Expressions, expression_cases, reference_cases, item_cases}
+use Rattle.f95_tree.proofs.Induction.{item_cases}
 use Rattle.f95_expressions.specs.declared.pending.Field.{Field}
 use Rattle.f95_expressions.specs.declared.pending.Spread.{Spread}
 use Rattle.f95_expressions.specs.declared.pending.Spread.TheVariants as spread
@@ -42,23 +39,21 @@ use Rattle.f95_expressions.specs.declared.pending.Bracket.TheVariants as kind
 use Rattle.f95_expressions.specs.declared.pending.Stage.{Stage}
 use Rattle.f95_expressions.specs.declared.pending.Stage.TheVariants as stage
 use Rattle.f95_expressions.specs.declared.pending.Pending.TheVariants as pending
-use Rattle.f95_expressions.specs.declared.pending.Held.{Held}
 use Rattle.f95_expressions.specs.declared.pending.Machine.{Machine}
 use Rattle.f95_expressions.specs.declared.pending.Machine.TheVariants as machine
-use Rattle.f95_expressions.specs.Fields.{spread_text, left_text, field_text, done_text, fields_text, well_spread, well_field}
+use Rattle.f95_expressions.specs.Fields.{spread_text, left_text, field_text, done_text, fields_text, well_field}
 use Rattle.f95_expressions.specs.Fields.{well_fields}
-use Rattle.f95_expressions.specs.Machine.{Stack, Found, ReferenceLayer, ExpressionLayer, asked, held, reduce, operated, signed}
-use Rattle.f95_expressions.specs.Machine.{lone, plain, whole, field, fresh, parted, closed, holds, did, with_stage, with_left, made}
-use Rattle.f95_expressions.specs.Machine.{made_plain, made_part, part_of, alone, is_closed_by, separated, separated_in, first_mark}
-use Rattle.f95_expressions.specs.Machine.{first_operator, first_step, opened, opened_reference, ended_by, next_mark, next_step}
-use Rattle.f95_expressions.specs.Machine.{did_step, step, run, ended, ended_held, row_of, item_of, items_of, within, is_nothing}
+use Rattle.f95_expressions.specs.Machine.{Stack}
+use Rattle.f95_expressions.specs.Machine.{whole, field, closed, holds, did, made}
+use Rattle.f95_expressions.specs.Machine.{made_plain, made_part, part_of, alone, is_closed_by}
+use Rattle.f95_expressions.specs.Machine.{step, ended, item_of, items_of, within, is_nothing}
 use Rattle.f95_expressions.specs.Machine.{is_nothing_from, value_of, values_of, filled, implied, looped, looped_with_step}
-use Rattle.f95_expressions.specs.Machine.{expression_of, index_of, first_in, maybe_expression_of, has_left, spread_of, coloned}
-use Rattle.f95_expressions.specs.Machine.{assigned, field_of, collected}
-use Rattle.f95_expressions.proofs.Lists.{both, joined, by_test, onto}
-use Rattle.f95_expressions.proofs.Fields.{value_field, expression_field, item_field, item_text, item_field_at}
+use Rattle.f95_expressions.specs.Machine.{expression_of, index_of, first_in, maybe_expression_of, has_left}
+use Rattle.f95_expressions.specs.Machine.{collected}
+use Rattle.f95_expressions.proofs.Lists.{onto}
+use Rattle.f95_expressions.proofs.Fields.{value_field, expression_field, item_field, item_text}
 use Rattle.f95_expressions.proofs.Again.{index_field, index_text}
-use Rattle.f95_expressions.proofs.State.{opening, stage_text, stack_text, well_bracket, well_stage, Opened, Sits, Holding, Doing}
+use Rattle.f95_expressions.proofs.State.{opening, stack_text, well_bracket, Sits, Holding, Doing}
 use Rattle.f95_expressions.proofs.State.{Good}
 use Rattle.f95_expressions.proofs.Read.{mapped, chained, lone_sound, whole_sound, value_sound, item_sound, expression_sound}
 use Rattle.f95_expressions.proofs.Read.{all_collected, list_text, onto_well, item-Plain_field, item-Keyword_field}
@@ -183,16 +178,16 @@ looped_text fs index last step w l =
 
 first_well : (n : Word) (x : Expression) → well_field (index_field n x) ≡ true → well x ≡ true
 first_well n x h = sym (well_value-One x)
-    ∙ (both (maybe_well (option_map grade (Some (e.Reference (r.Whole n))))) (well_value (v.One x)) h).1
+    ∙ (and_parts (maybe_well (option_map grade (Some (e.Reference (r.Whole n))))) (well_value (v.One x)) h).1
 
 looped_well : (fs : List Field) (index last : Field) (step : Option Field) (w : Value) → Looped fs index last step w →
     well_fields fs ≡ true → well_field index ≡ true → well_field last ≡ true → step_well step ≡ true → well_value w ≡ true
 looped_well fs index last step w l hf hi hl hs =
     let v = values_sound fs l.vs l.values in
     sym (ap well_value l.whole) ∙ well_value-ImpliedDo l.vs l.n l.first l.end l.stride
-    ∙ joined _ _ (joined _ _ v.filled (values_well fs l.vs v hf))
-    (joined _ _ (first_well l.n l.first (sym (ap well_field l.indexed) ∙ hi))
-    (joined _ _ (sym (ap well_field l.ended ∙ well_value-One l.end) ∙ hl) ((step_sound step l.stride l.stepped).kept hs)))
+    ∙ and_from _ _ (and_from _ _ v.filled (values_well fs l.vs v hf))
+    (and_from _ _ (first_well l.n l.first (sym (ap well_field l.indexed) ∙ hi))
+    (and_from _ _ (sym (ap well_field l.ended ∙ well_value-One l.end) ∙ hl) ((step_sound step l.stride l.stepped).kept hs)))
 
 -- fields in brackets that are an implied DO
 pub record Implied (fs : List Field) (w : Value) : Type 0 where
@@ -203,8 +198,8 @@ looped_implied : (fs : List Field) (y z : Field) (w : Value) → Looped fs y z N
 looped_implied fs y z w l = record {
   spelled = ap (λ t. in_brackets ((done_text fs ++ (field_text y ++ punctuated mark.Comma [])) ++ t))
       (sym (append-nil (field_text z))) ∙ looped_text fs y z None w l;
-  kept = λ h. let hz = both (well_fields fs && well_field y) (well_field z) h in let hy =
-      both (well_fields fs) (well_field y) hz.0 in
+  kept = λ h. let hz = and_parts (well_fields fs && well_field y) (well_field z) h in let hy =
+      and_parts (well_fields fs) (well_field y) hz.0 in
       looped_well fs y z None w l hy.0 hy.1 hz.1 refl;
 }
 
@@ -217,8 +212,8 @@ stepped_implied fs x y z w l = record {
       ∙ ap (λ t. (done_text fs ++ (field_text x ++ punctuated mark.Comma [])) ++ t)
       (append_assoc (field_text y) (punctuated mark.Comma []) (field_text z)))
       ∙ looped_text fs x y (Some z) w l;
-  kept = λ h. let hz = both ((well_fields fs && well_field x) && well_field y) (well_field z) h in
-      let hy = both (well_fields fs && well_field x) (well_field y) hz.0 in let hx = both (well_fields fs) (well_field x) hy.0 in
+  kept = λ h. let hz = and_parts ((well_fields fs && well_field x) && well_field y) (well_field z) h in
+      let hy = and_parts (well_fields fs && well_field x) (well_field y) hz.0 in let hx = and_parts (well_fields fs) (well_field x) hy.0 in
       looped_well fs x y (Some z) w l hx.0 hx.1 hy.1 hz.1;
 }
 
@@ -249,13 +244,13 @@ nothing_text None (spread.One w) h = absurd (cc)
 nothing_text None (spread.Triplet a b c) h = absurd (cc)
 nothing_text (Some x) sp h = absurd (cc)
 
-within_text : (fs : List Field) → fields_text (within fs) ≡ fields_text fs
+pub within_text : (fs : List Field) → fields_text (within fs) ≡ fields_text fs
 within_text [] = refl
 within_text (f ∷ []) = by_test (λ b. fields_text (if b then [] else f ∷ []) ≡ field_text f) (is_nothing f)
     (λ h. sym (nothing_text f.left f.spread h)) (λ h. refl)
 within_text (f ∷ g ∷ fs) = refl
 
-within_well : (fs : List Field) → well_fields fs ≡ true → well_fields (within fs) ≡ true
+pub within_well : (fs : List Field) → well_fields fs ≡ true → well_fields (within fs) ≡ true
 within_well [] h = h
 within_well (f ∷ []) h = by_test (λ b. well_fields (if b then [] else f ∷ []) ≡ true) (is_nothing f) (λ _. refl) (λ _. h)
 within_well (f ∷ g ∷ fs) h = h
@@ -332,7 +327,7 @@ array_good fs s w sits = holds_good s _ _ (λ y h. mapped e.Constructor (values_
       spelled = ap (λ t. stack_text s ++ t) (expression-Constructor vs)
           ∙ ap (λ t. stack_text s ++ punctuated mark.OpenArray (t ++ punctuated mark.CloseArray [])) (sym (values_text fs vs v));
       sits = sits;
-      operand = grade-Constructor vs ∙ ap (λ b. (10, b)) (joined _ _ v.filled (values_well fs vs v w));
+      operand = grade-Constructor vs ∙ ap (λ b. (10, b)) (and_from _ _ v.filled (values_well fs vs v w));
     }))
 
 part_text : (n : Word) (xs : List Item) (a b : Option Expression) →
@@ -349,8 +344,8 @@ part_text n xs a b =
 range_well : (a b : Option Expression) → well_field (field None (spread.Triplet a b None)) ≡ true →
     (maybe_well (option_map grade a) && maybe_well (option_map grade b)) ≡ true
 range_well a b h =
-    let ws = both (maybe_well (option_map grade a)) (maybe_well (option_map grade b) && true) h in
-    joined _ _ ws.0 (both (maybe_well (option_map grade b)) true ws.1).0
+    let ws = and_parts (maybe_well (option_map grade a)) (maybe_well (option_map grade b) && true) h in
+    and_from _ _ ws.0 (and_parts (maybe_well (option_map grade b)) true ws.1).0
 
 part_good : (n : Word) (xs : List Item) (left : Option Expression) (sp : Spread) (s : Stack) → all (map well_item xs) ≡ true →
     well_field (field left sp) ≡ true → Sits s →
@@ -359,7 +354,7 @@ part_good n xs None (spread.Triplet a b None) s wx w sits = record {
   spelled = ap (λ t. stack_text s ++ t) (sym (part_text n xs a b));
   sits = sits;
   operand = grade-Reference (r.Substring n xs (a, b)) ∙ ap (λ c. (10, c))
-      (well_reference-Substring n xs a b ∙ joined _ _ wx (range_well a b w));
+      (well_reference-Substring n xs a b ∙ and_from _ _ wx (range_well a b w));
 }
 part_good n xs None (spread.Triplet a b (Some c)) s wx w sits = tt
 part_good n xs None (spread.One v) s wx w sits = tt

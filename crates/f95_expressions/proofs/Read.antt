@@ -1,38 +1,37 @@
 -- What is made of fields is spelled as they are.
-use Rattle.std.proofs.Common.{◌≡◌, ℕ, Bool, true, false, ◌&&◌, List, [], ◌∷◌, ◌++◌, map, Option, Some, None, sym, ◌∙◌, ap, subst}
+use Rattle.std.proofs.Common.{◌≡◌, Bool, true, ◌&&◌, List, [], ◌∷◌, ◌++◌, map, Option, Some, None, sym, ◌∙◌, ap}
 use Rattle.std.proofs.Common.{refl, append_assoc, append-nil}
 use Rattle.std.proofs.lemmas.List.{map-append}
-use Rattle.std.specs.Prelude.{option_map, option_and_then, if◌then◌else◌}
-use Rattle.std.proofs.lemmas.Option.{option_and_then_some}
-use Rattle.f95_tree.specs.declared.expression.Expression.{Expression, roll-Expression, out-Expression}
+use Rattle.std.specs.Prelude.{option_map, option_and_then}
+use Rattle.std.proofs.lemmas.Bool.{and_parts}
+use Rattle.f95_tree.specs.declared.expression.Expression.{Expression}
 use Rattle.f95_tree.specs.declared.expression.Expression.TheVariants as e
-use Rattle.f95_tree.specs.declared.expression.Reference.{Reference, roll-Reference, out-Reference}
+use Rattle.f95_tree.specs.declared.expression.Reference.{Reference, out-Reference}
 use Rattle.f95_tree.specs.declared.expression.Reference.TheVariants as r
-use Rattle.f95_tree.specs.declared.expression.Value.{Value, roll-Value, out-Value}
+use Rattle.f95_tree.specs.declared.expression.Value.{Value}
 use Rattle.f95_tree.specs.declared.expression.Value.TheVariants as v
-use Rattle.f95_tree.specs.declared.expression.Item.{Item, roll-Item, out-Item}
+use Rattle.f95_tree.specs.declared.expression.Item.{Item}
 use Rattle.f95_tree.specs.declared.expression.Item.TheVariants as i
 use Rattle.f95_tree.specs.declared.terminal.Terminal.{Terminal}
 use Rattle.f95_tree.specs.declared.terminal.Terminal.TheVariants as terminal
 use Rattle.f95_tree.specs.declared.terminal.Punctuation.TheVariants as mark
-use Rattle.f95_tree.specs.Spelling.{Text, punctuated, behind_commas, commas, expression, item, value}
-use Rattle.f95_tree.specs.Grades.{all, maybe_well, grade, well, well_item, well_value}
+use Rattle.f95_tree.specs.Spelling.{Text, punctuated, commas, expression}
+use Rattle.f95_tree.specs.Grades.{all, well}
 use Rattle.f95_tree.specs.Forms.{Word}
-use Rattle.f95_tree.proofs.Nodes.{expression-Reference, reference-Whole}
 use Rattle.f95_tree.proofs.Views.{seen-Literal, seen-Reference, seen-Bracketed, seen-Constructor, seen-Signed, seen-Binary}
 use Rattle.f95_tree.proofs.Views.{seen-Plain, seen-Keyword, seen-Triplet, seen-Whole, seen-Items, seen-Substring, seen-One}
 use Rattle.f95_tree.proofs.Views.{seen-ImpliedDo}
-use Rattle.f95_tree.proofs.Induction.{Expressions, expression_cases, value_cases, item_cases, reference_cases}
+use Rattle.f95_tree.proofs.Induction.{expression_cases, value_cases, reference_cases}
 use Rattle.f95_expressions.specs.declared.pending.Field.{Field}
 use Rattle.f95_expressions.specs.declared.pending.Spread.{Spread}
 use Rattle.f95_expressions.specs.declared.pending.Spread.TheVariants as spread
 use Rattle.f95_expressions.specs.declared.pending.Stage.{Stage}
 use Rattle.f95_expressions.specs.declared.pending.Stage.TheVariants as stage
-use Rattle.f95_expressions.specs.Fields.{spread_text, left_text, field_text, done_text, fields_text, well_spread, well_field}
+use Rattle.f95_expressions.specs.Fields.{field_text, done_text, fields_text, well_field}
 use Rattle.f95_expressions.specs.Fields.{well_fields}
-use Rattle.f95_expressions.specs.Machine.{lone, plain, whole, name_in, name_in_reference, expression_in, value_from, item_from}
-use Rattle.f95_expressions.specs.Machine.{field, item_of, value_of, expression_of, collected, spread_of, coloned, assigned}
-use Rattle.f95_expressions.proofs.Lists.{both, onto, onto_append}
+use Rattle.f95_expressions.specs.Machine.{lone, whole, name_in, name_in_reference, expression_in, value_from, item_from}
+use Rattle.f95_expressions.specs.Machine.{field, value_of, expression_of, collected}
+use Rattle.f95_expressions.proofs.Lists.{onto, onto_append}
 use Rattle.f95_expressions.proofs.Fields.{value_field, expression_field, item_field, item_field_at}
 
 -- what a mapped option comes from
@@ -163,5 +162,5 @@ pub onto_well : {A : Type 0} (g : A → Field) (w : A → Bool) → ((x : A) →
 onto_well g w same [] d h = (refl, h)
 onto_well g w same (x ∷ xs) d h =
     let more = onto_well g w same xs (g x ∷ d) h in
-    let here = both (well_fields d) (well_field (g x)) more.1 in
+    let here = and_parts (well_fields d) (well_field (g x)) more.1 in
     (ap (λ b. b && all (map w xs)) (sym (same x) ∙ here.1) ∙ more.0, here.0)

@@ -1,8 +1,9 @@
 -- What the machine has read is spelled as what it took, and is well formed.
-use Rattle.std.proofs.Common.{◌≡◌, ℕ, ◌<◌, ◌≤◌, Bool, true, false, ◌&&◌, nat_le, List, [], ◌∷◌, ◌++◌, map, Option, Some, None, sym}
+use Rattle.std.proofs.Common.{◌≡◌, ℕ, ◌≤◌, Bool, true, nat_le, List, [], ◌∷◌, ◌++◌, Option, Some, None, sym}
 use Rattle.std.proofs.Common.{◌∙◌, ap, subst, refl, append_assoc, append-nil, arith}
-use Rattle.std.specs.Prelude.{option_map, option_and_then, if◌then◌else◌}
-use Rattle.std.proofs.lemmas.Bool.{leb-true, le-leb}
+use Rattle.std.specs.Prelude.{option_map, if◌then◌else◌}
+use Rattle.std.proofs.lemmas.Bool.{leb-true, le-leb, and_parts, and_from}
+use Rattle.a95_base.proofs.Tests.{by_test}
 use Rattle.f95_tree.specs.declared.expression.Expression.{Expression, out-Expression}
 use Rattle.f95_tree.specs.declared.expression.Expression.TheVariants as e
 use Rattle.f95_tree.specs.declared.expression.Expression.TheOpen as layer
@@ -21,19 +22,18 @@ use Rattle.f95_tree.specs.declared.terminal.Sign.TheVariants as sign
 use Rattle.f95_tree.specs.declared.terminal.Punctuation.{Punctuation}
 use Rattle.f95_tree.specs.declared.terminal.Punctuation.TheVariants as mark
 use Rattle.f95_tree.specs.Levels.{level, left_of, right_of, sign_level, under_sign}
-use Rattle.f95_tree.specs.Spelling.{Text, punctuated, behind_commas, commas, in_brackets, maybe, maybe_behind, sign_terminal}
-use Rattle.f95_tree.specs.Spelling.{expression, item, reference, value}
-use Rattle.f95_tree.specs.Grades.{Grade, all, some, maybe_well, grade, well, well_item, well_reference, well_value}
-use Rattle.f95_tree.specs.Forms.{Word}
-use Rattle.f95_tree.proofs.Nodes.{expression-Literal, expression-Reference, expression-Bracketed, expression-Constructor}
-use Rattle.f95_tree.proofs.Nodes.{expression-Signed, expression-Binary, item-Plain, item-Keyword, item-Triplet, reference-Whole}
-use Rattle.f95_tree.proofs.Nodes.{reference-Items, reference-Substring, value-One, value-ImpliedDo, grade-Literal, grade-Reference}
-use Rattle.f95_tree.proofs.Nodes.{grade-Bracketed, grade-Constructor, grade-Signed, grade-Binary, well_item-Plain}
-use Rattle.f95_tree.proofs.Nodes.{well_item-Keyword, well_item-Triplet, well_reference-Whole, well_reference-Items}
-use Rattle.f95_tree.proofs.Nodes.{well_reference-Substring, well_value-One, well_value-ImpliedDo}
+use Rattle.f95_tree.specs.Spelling.{Text, punctuated, maybe, sign_terminal}
+use Rattle.f95_tree.specs.Spelling.{expression, reference, value}
+use Rattle.f95_tree.specs.Grades.{Grade, maybe_well, grade, well, well_reference, well_value}
+use Rattle.f95_tree.proofs.Nodes.{expression-Literal, expression-Reference}
+use Rattle.f95_tree.proofs.Nodes.{expression-Signed, expression-Binary, reference-Whole}
+use Rattle.f95_tree.proofs.Nodes.{reference-Items, value-One, grade-Literal, grade-Reference}
+use Rattle.f95_tree.proofs.Nodes.{grade-Signed, grade-Binary}
+use Rattle.f95_tree.proofs.Nodes.{well_reference-Whole, well_reference-Items}
+use Rattle.f95_tree.proofs.Nodes.{well_value-One}
 use Rattle.f95_tree.proofs.Views.{seen-Literal, seen-Reference, seen-Bracketed, seen-Constructor, seen-Signed, seen-Binary}
 use Rattle.f95_tree.proofs.Views.{seen-Whole, seen-Items, seen-Substring}
-use Rattle.f95_tree.proofs.Induction.{Expressions, expression_cases, reference_cases, item_cases}
+use Rattle.f95_tree.proofs.Induction.{expression_cases, reference_cases}
 use Rattle.f95_expressions.specs.declared.pending.Field.{Field}
 use Rattle.f95_expressions.specs.declared.pending.Spread.{Spread}
 use Rattle.f95_expressions.specs.declared.pending.Spread.TheVariants as spread
@@ -47,22 +47,16 @@ use Rattle.f95_expressions.specs.declared.pending.Machine.{Machine}
 use Rattle.f95_expressions.specs.declared.pending.Machine.TheVariants as machine
 use Rattle.f95_expressions.specs.Fields.{spread_text, left_text, field_text, done_text, fields_text, well_spread, well_field}
 use Rattle.f95_expressions.specs.Fields.{well_fields}
-use Rattle.f95_expressions.specs.Machine.{Stack, Found, ReferenceLayer, ExpressionLayer, asked, held, reduce, operated, signed}
-use Rattle.f95_expressions.specs.Machine.{lone, plain, field, fresh, parted, closed, holds, did, with_stage, with_left, made}
-use Rattle.f95_expressions.specs.Machine.{made_plain, made_part, part_of, alone, is_closed_by, separated, separated_in, first_mark}
+use Rattle.f95_expressions.specs.Machine.{Stack, Found, asked, held, reduce, operated, signed}
+use Rattle.f95_expressions.specs.Machine.{lone, plain, field, fresh, parted, closed, with_stage, with_left, made}
+use Rattle.f95_expressions.specs.Machine.{is_closed_by, separated, separated_in, first_mark}
 use Rattle.f95_expressions.specs.Machine.{first_operator, first_step, opened, opened_reference, ended_by, next_mark, next_step}
-use Rattle.f95_expressions.specs.Machine.{did_step, step, run, ended, ended_held, row_of, item_of, items_of, within, is_nothing}
-use Rattle.f95_expressions.specs.Machine.{value_of, values_of, filled, implied, looped, looped_with_step, expression_of, index_of}
-use Rattle.f95_expressions.specs.Machine.{first_in, maybe_expression_of, has_left, spread_of, coloned, assigned, field_of}
-use Rattle.f95_expressions.specs.Machine.{collected}
-use Rattle.f95_expressions.proofs.Lists.{both, joined, by_test, onto}
-use Rattle.f95_expressions.proofs.Fields.{value_field, expression_field, item_field, item_text, item_field_at}
-use Rattle.f95_expressions.proofs.State.{opening, stage_text, stack_text, well_bracket, well_stage, Opened, Sits, Holding, Doing}
+use Rattle.f95_expressions.specs.Machine.{did_step, step, run, ended, row_of}
+use Rattle.f95_expressions.specs.Machine.{spread_of, coloned, assigned, field_of}
+use Rattle.f95_expressions.proofs.State.{opening, stage_text, stack_text, well_bracket, well_stage, Opened, Sits}
 use Rattle.f95_expressions.proofs.State.{Good}
-use Rattle.f95_expressions.proofs.Made.{between, made_good}
-use Rattle.f95_expressions.proofs.Read.{mapped, chained, lone_sound, whole_sound, value_sound, item_sound, expression_sound}
-use Rattle.f95_expressions.proofs.Read.{all_collected, list_text, onto_well, item-Plain_field, item-Keyword_field}
-use Rattle.f95_expressions.proofs.Read.{item-Triplet_field}
+use Rattle.f95_expressions.proofs.Made.{made_good}
+use Rattle.f95_expressions.proofs.Read.{mapped, lone_sound}
 
 -- ---- operators
 
@@ -80,10 +74,10 @@ reduced_here s x t is sits w a = record { spelled = is; sits = sits; kept = w; t
 binary_well : (op : Operator) (a b : Expression) → left_of op ≤ (grade a).0 → well a ≡ true → right_of op ≤ (grade b).0 →
     well b ≡ true → well (e.Binary op a b) ≡ true
 binary_well op a b la wa lb wb = ap (λ (g : Grade). g.1) (grade-Binary op a b)
-    ∙ joined _ _ (joined _ _ (le-leb _ _ la) wa) (joined _ _ (le-leb _ _ lb) wb)
+    ∙ and_from _ _ (and_from _ _ (le-leb _ _ la) wa) (and_from _ _ (le-leb _ _ lb) wb)
 
 signed_well : (g : Sign) (x : Expression) → under_sign g ≤ (grade x).0 → well x ≡ true → well (e.Signed g x) ≡ true
-signed_well g x l w = ap (λ (g : Grade). g.1) (grade-Signed g x) ∙ joined _ _ (le-leb _ _ l) w
+signed_well g x l w = ap (λ (g : Grade). g.1) (grade-Signed g x) ∙ and_from _ _ (le-leb _ _ l) w
 
 level_binary : (op : Operator) (a b : Expression) → (grade (e.Binary op a b)).0 ≡ level op
 level_binary op a b = ap (λ (g : Grade). g.0) (grade-Binary op a b)
@@ -184,7 +178,7 @@ upper_spelled a last o p = record {
   spelled = append_assoc (maybe (option_map expression a)) (punctuated mark.Colon []) (maybe_value last)
       ∙ ap (λ u. maybe (option_map expression a) ++ punctuated mark.Colon u)
       (p.spelled ∙ sym (append-nil (maybe (option_map expression o))));
-  kept = λ ws wl. joined _ _ ws (joined _ _ (p.kept wl) refl);
+  kept = λ ws wl. and_from _ _ ws (and_from _ _ (p.kept wl) refl);
 }
 
 stride_spelled : (a b : Option Expression) (w : Value) (x : Expression) → lone w ≡ Some x →
@@ -196,7 +190,7 @@ stride_spelled a b w x h = record {
       ∙ ap (λ u. maybe (option_map expression a) ++ punctuated mark.Colon u)
       (append_assoc (maybe (option_map expression b)) (punctuated mark.Colon []) (value w)
       ∙ ap (λ u. maybe (option_map expression b) ++ punctuated mark.Colon u) (one_text w x h));
-  kept = λ ws wl. let both_well = both _ _ ws in joined _ _ both_well.0 (joined _ _ both_well.1 (one_well w x h wl));
+  kept = λ ws wl. let both_well = and_parts _ _ ws in and_from _ _ both_well.0 (and_from _ _ both_well.1 (one_well w x h wl));
 }
 
 spread_sound : (g : Stage) (last : Option Value) (sp : Spread) → spread_of g last ≡ Some sp → Spelled g last sp
@@ -226,7 +220,7 @@ coloned_sound (stage.Upper a) last next h = mapped (stage.Stride a) (plain last)
       spelled = ap (λ u. maybe (option_map expression a) ++ punctuated mark.Colon (u ++ punctuated mark.Colon [])) (sym p.spelled)
           ∙ sym (append_assoc (maybe (option_map expression a)) (punctuated mark.Colon [])
           (maybe_value last ++ punctuated mark.Colon []));
-      kept = λ ws wl. joined _ _ ws (p.kept wl);
+      kept = λ ws wl. and_from _ _ ws (p.kept wl);
     })
 coloned_sound (stage.Stride a b) last next h = absurd (cc)
 
@@ -258,7 +252,7 @@ left_behind s o d x p = simp (append_assoc, append-nil)
 module _ (k : Bracket) (d : List Field) (left : Option Expression) (g : Stage) (s : Stack) (last : Option Value)
     (opened : Opened k d left g) (sits : Sits s) (kept : maybe_well_value last ≡ true) where
   field_well : (sp : Spread) → Spelled g last sp → well_field (field left sp) ≡ true
-  field_well sp is = joined _ _ opened.left_well (is.kept opened.stage_well kept)
+  field_well sp is = and_from _ _ opened.left_well (is.kept opened.stage_well kept)
 
   field_text_is : (sp : Spread) → Spelled g last sp → open_text k d left g s last ≡ stack_text s
       ++ (opening k ++ (done_text d ++ field_text (field left sp)))
@@ -279,7 +273,7 @@ module _ (k : Bracket) (d : List Field) (left : Option Expression) (g : Stage) (
         (
           record {
             bracket_well = opened.bracket_well;
-            done_well = joined _ _ opened.done_well (field_well sp spelled);
+            done_well = and_from _ _ opened.done_well (field_well sp spelled);
             left_well =
                 refl;
             stage_well = refl;
@@ -301,7 +295,7 @@ module _ (k : Bracket) (d : List Field) (left : Option Expression) (g : Stage) (
       (subst (Good (made k (field left sp ∷ d) s))
       (closed_text (stack_text s) (opening k) (done_text d) (field_text (field left sp)) p
       ∙ ap (λ t. t ++ punctuated p []) (sym (field_text_is sp spelled)))
-      (made_good k (field left sp ∷ d) s p c opened.bracket_well (joined _ _ opened.done_well (field_well sp spelled)) sits)))
+      (made_good k (field left sp ∷ d) s p c opened.bracket_well (and_from _ _ opened.done_well (field_well sp spelled)) sits)))
 
   closed_all : (p : Punctuation) → is_closed_by k p ≡ true → (o : Option Field) → field_of left g last ≡ o →
       Good (closed k d s o) (open_text k d left g s last ++ punctuated p [])
@@ -546,7 +540,7 @@ row_good (pending.Open kind.Row d left g ∷ []) last f t is sits kept h =
     let spelled = spread_sound g last sp hsp in
     subst (λ f. Ends f t) same (subst (λ f. Ends (f ∷ d, None) t) named (
       sym (field_text_is kind.Row d left g [] last sits.0 sits.1 kept sp spelled) ∙ is,
-      joined _ _ sits.0.done_well (field_well kind.Row d left g [] last sits.0 sits.1 kept sp spelled),
+      and_from _ _ sits.0.done_well (field_well kind.Row d left g [] last sits.0 sits.1 kept sp spelled),
     ))))
 row_good (pending.Open kind.Row d left g ∷ p ∷ s) last f t is sits kept h = absurd (cc)
 row_good (pending.Open kind.Plain d left g ∷ s) last f t is sits kept h = absurd (cc)

@@ -1,12 +1,10 @@
 -- What a state of the machine has read, and what it keeps.
-use Rattle.std.proofs.Common.{◌≡◌, ℕ, ◌<◌, ◌≤◌, Bool, true, false, ◌&&◌, nat_le, List, [], ◌∷◌, ◌++◌, map, Option, Some, None, sym}
-use Rattle.std.proofs.Common.{◌∙◌, ap, subst, refl, append_assoc, append-nil, arith}
-use Rattle.std.specs.Prelude.{option_map, option_and_then, if◌then◌else◌}
-use Rattle.std.proofs.lemmas.Bool.{leb-true, le-leb}
-use Rattle.f95_tree.specs.declared.expression.Expression.{Expression, out-Expression}
+use Rattle.std.proofs.Common.{◌≡◌, ◌≤◌, Bool, true, ◌&&◌, List, [], ◌∷◌, ◌++◌, map, Option}
+use Rattle.std.specs.Prelude.{option_map}
+use Rattle.f95_tree.specs.declared.expression.Expression.{Expression}
 use Rattle.f95_tree.specs.declared.expression.Expression.TheVariants as e
 use Rattle.f95_tree.specs.declared.expression.Expression.TheOpen as layer
-use Rattle.f95_tree.specs.declared.expression.Reference.{Reference, out-Reference}
+use Rattle.f95_tree.specs.declared.expression.Reference.{Reference}
 use Rattle.f95_tree.specs.declared.expression.Reference.TheVariants as r
 use Rattle.f95_tree.specs.declared.expression.Value.{Value}
 use Rattle.f95_tree.specs.declared.expression.Value.TheVariants as v
@@ -20,20 +18,10 @@ use Rattle.f95_tree.specs.declared.terminal.Sign.{Sign}
 use Rattle.f95_tree.specs.declared.terminal.Sign.TheVariants as sign
 use Rattle.f95_tree.specs.declared.terminal.Punctuation.{Punctuation}
 use Rattle.f95_tree.specs.declared.terminal.Punctuation.TheVariants as mark
-use Rattle.f95_tree.specs.Levels.{level, left_of, right_of, sign_level, under_sign}
-use Rattle.f95_tree.specs.Spelling.{Text, punctuated, behind_commas, commas, in_brackets, maybe, maybe_behind, sign_terminal}
-use Rattle.f95_tree.specs.Spelling.{expression, item, reference, value}
-use Rattle.f95_tree.specs.Grades.{Grade, all, some, maybe_well, grade, well, well_item, well_reference, well_value}
-use Rattle.f95_tree.specs.Forms.{Word}
-use Rattle.f95_tree.proofs.Nodes.{expression-Literal, expression-Reference, expression-Bracketed, expression-Constructor}
-use Rattle.f95_tree.proofs.Nodes.{expression-Signed, expression-Binary, item-Plain, item-Keyword, item-Triplet, reference-Whole}
-use Rattle.f95_tree.proofs.Nodes.{reference-Items, reference-Substring, value-One, value-ImpliedDo, grade-Literal, grade-Reference}
-use Rattle.f95_tree.proofs.Nodes.{grade-Bracketed, grade-Constructor, grade-Signed, grade-Binary, well_item-Plain}
-use Rattle.f95_tree.proofs.Nodes.{well_item-Keyword, well_item-Triplet, well_reference-Whole, well_reference-Items}
-use Rattle.f95_tree.proofs.Nodes.{well_reference-Substring, well_value-One, well_value-ImpliedDo}
-use Rattle.f95_tree.proofs.Views.{seen-Literal, seen-Reference, seen-Bracketed, seen-Constructor, seen-Signed, seen-Binary}
-use Rattle.f95_tree.proofs.Views.{seen-Whole, seen-Items, seen-Substring}
-use Rattle.f95_tree.proofs.Induction.{Expressions, expression_cases, reference_cases, item_cases}
+use Rattle.f95_tree.specs.Levels.{level, left_of, sign_level}
+use Rattle.f95_tree.specs.Spelling.{Text, punctuated, commas, in_brackets, maybe, sign_terminal}
+use Rattle.f95_tree.specs.Spelling.{expression, item, value}
+use Rattle.f95_tree.specs.Grades.{all, maybe_well, grade, well, well_item, well_value}
 use Rattle.f95_expressions.specs.declared.pending.Field.{Field}
 use Rattle.f95_expressions.specs.declared.pending.Spread.{Spread}
 use Rattle.f95_expressions.specs.declared.pending.Spread.TheVariants as spread
@@ -42,24 +30,11 @@ use Rattle.f95_expressions.specs.declared.pending.Bracket.TheVariants as kind
 use Rattle.f95_expressions.specs.declared.pending.Stage.{Stage}
 use Rattle.f95_expressions.specs.declared.pending.Stage.TheVariants as stage
 use Rattle.f95_expressions.specs.declared.pending.Pending.TheVariants as pending
-use Rattle.f95_expressions.specs.declared.pending.Held.{Held}
 use Rattle.f95_expressions.specs.declared.pending.Machine.{Machine}
 use Rattle.f95_expressions.specs.declared.pending.Machine.TheVariants as machine
-use Rattle.f95_expressions.specs.Fields.{spread_text, left_text, field_text, done_text, fields_text, well_spread, well_field}
+use Rattle.f95_expressions.specs.Fields.{left_text, done_text, fields_text}
 use Rattle.f95_expressions.specs.Fields.{well_fields}
-use Rattle.f95_expressions.specs.Machine.{Stack, Found, ReferenceLayer, ExpressionLayer, asked, held, reduce, operated, signed}
-use Rattle.f95_expressions.specs.Machine.{lone, plain, field, fresh, parted, closed, holds, did, with_stage, with_left, made}
-use Rattle.f95_expressions.specs.Machine.{made_plain, made_part, part_of, alone, is_closed_by, separated, separated_in, first_mark}
-use Rattle.f95_expressions.specs.Machine.{first_operator, first_step, opened, opened_reference, ended_by, next_mark, next_step}
-use Rattle.f95_expressions.specs.Machine.{did_step, step, run, ended, ended_held, row_of, item_of, items_of, within, is_nothing}
-use Rattle.f95_expressions.specs.Machine.{value_of, values_of, filled, implied, looped, looped_with_step, expression_of, index_of}
-use Rattle.f95_expressions.specs.Machine.{first_in, maybe_expression_of, has_left, spread_of, coloned, assigned, field_of}
-use Rattle.f95_expressions.specs.Machine.{collected}
-use Rattle.f95_expressions.proofs.Lists.{both, joined, by_test, onto}
-use Rattle.f95_expressions.proofs.Fields.{value_field, expression_field, item_field, item_text, item_field_at}
-use Rattle.f95_expressions.proofs.Read.{mapped, chained, lone_sound, whole_sound, value_sound, item_sound, expression_sound}
-use Rattle.f95_expressions.proofs.Read.{all_collected, list_text, onto_well, item-Plain_field, item-Keyword_field}
-use Rattle.f95_expressions.proofs.Read.{item-Triplet_field}
+use Rattle.f95_expressions.specs.Machine.{Stack, asked}
 
 -- ---- the text of a state
 

@@ -3,15 +3,18 @@ use Rattle.std.proofs.Common.{◌≡◌, ℕ, ◌+◌, Bool, true, false, ◌&&�
 use Rattle.std.proofs.Common.{Some, None, is_some, refl, sym, ap, ◌∙◌, subst, add-one, arith}
 use Rattle.std.proofs.lemmas.Bool.Decides.{nat_tests}
 use Rattle.std.proofs.lemmas.List.{length-map, drop-drop}
+use Rattle.std.proofs.lemmas.Bool.{and_right}
+use Rattle.a95_base.proofs.Tests.{and_second}
+use Rattle.a95_base.specs.Input.{is_digit}
 use Rattle.f95_lexer.specs.Continuation.{opened, kept}
 use Rattle.f95_lexer.specs.declared.lexeme.Lexeme.TheVariants as lexeme
 use Rattle.f95_lexer.specs.declared.lexeme.Found.{Found}
 use Rattle.f95_lexer.specs.declared.token.Mark.{Mark}
-use Rattle.f95_lexer.specs.Characters.{is_blank, is_letter, is_digit, is_name, is_delimiter, lower}
+use Rattle.f95_lexer.specs.Characters.{is_blank, is_letter, is_name, is_delimiter, lower}
 use Rattle.f95_lexer.specs.Lexeme.{front, behind_front, is_nil, begins_with, found_at, word_at, word_to_point, pointed, taken}
 use Rattle.f95_lexer.specs.Lexeme.{number_at, Literal, literal, text_at, symbol, symbol_at, symbol_of_one, symbol_of_two, longer_or}
 use Rattle.f95_lexer.proofs.Written.{skip, stay}
-use Rattle.f95_lexer.proofs.Unwritten.{drop_front, begun_by, second}
+use Rattle.f95_lexer.proofs.Unwritten.{drop_front, begun_by}
 
 -- each text that is open, or begins, is closed before its statement ends
 abbrev pub balanced : Option ℕ → List ℕ → Bool
@@ -144,17 +147,13 @@ point_cases cs true test = record {
   rest = λ h.
       let letters = front is_letter cs in
       let behind = behind_front is_letter cs in
-      let point : behind ≡ 46 ∷ drop 1 behind = begun_by 46 behind (second (not (is_nil letters)) (begins_with 46 behind) test) in
+      let point : behind ≡ 46 ∷ drop 1 behind = begun_by 46 behind (and_second (not (is_nil letters)) (begins_with 46 behind) test) in
       let start : balanced None behind ≡ true =
       ap (balanced None) (sym (drop_front is_letter cs)) ∙ front_kept is_letter cs letter_plain h in
       let after_point : balanced None (drop 1 behind) ≡ true = ap (balanced None) (sym point) ∙ start in
       ap (λ n. balanced None (drop (n + 1) cs)) (length-map letters lower)
       ∙ ap (balanced None) (sym (drop-drop 1 (length letters) cs) ∙ ap (drop 1) (drop_front is_letter cs)) ∙ after_point;
 }
-
-both_no : (a b : Bool) → b ≡ false → a && b ≡ false
-both_no true b e = e
-both_no false b e = refl
 
 no_symbol : (c d : ℕ) → is_delimiter d ≡ true → symbol_of_two c d ≡ None
 no_symbol c d e =
@@ -163,15 +162,15 @@ no_symbol c d e =
     let colon : d == 58 ≡ false = grind (arith, nat_tests) in
     let equals : d == 61 ≡ false = grind (arith, nat_tests) in
     let star : d == 42 ≡ false = grind (arith, nat_tests) in
-    skip (c == 40 && d == 47) _ _ _ (both_no (c == 40) (d == 47) slash)
-    (skip (c == 47 && d == 41) _ _ _ (both_no (c == 47) (d == 41) paren)
-    (skip (c == 58 && d == 58) _ _ _ (both_no (c == 58) (d == 58) colon)
-    (skip (c == 61 && d == 61) _ _ _ (both_no (c == 61) (d == 61) equals)
-    (skip (c == 47 && d == 61) _ _ _ (both_no (c == 47) (d == 61) equals)
-    (skip (c == 60 && d == 61) _ _ _ (both_no (c == 60) (d == 61) equals)
-    (skip (c == 62 && d == 61) _ _ _ (both_no (c == 62) (d == 61) equals)
-    (skip (c == 42 && d == 42) _ _ _ (both_no (c == 42) (d == 42) star)
-    (skip (c == 47 && d == 47) _ _ _ (both_no (c == 47) (d == 47) slash) refl))))))))
+    skip (c == 40 && d == 47) _ _ _ (and_right (c == 40) (d == 47) slash)
+    (skip (c == 47 && d == 41) _ _ _ (and_right (c == 47) (d == 41) paren)
+    (skip (c == 58 && d == 58) _ _ _ (and_right (c == 58) (d == 58) colon)
+    (skip (c == 61 && d == 61) _ _ _ (and_right (c == 61) (d == 61) equals)
+    (skip (c == 47 && d == 61) _ _ _ (and_right (c == 47) (d == 61) equals)
+    (skip (c == 60 && d == 61) _ _ _ (and_right (c == 60) (d == 61) equals)
+    (skip (c == 62 && d == 61) _ _ _ (and_right (c == 62) (d == 61) equals)
+    (skip (c == 42 && d == 42) _ _ _ (and_right (c == 42) (d == 42) star)
+    (skip (c == 47 && d == 47) _ _ _ (and_right (c == 47) (d == 47) slash) refl))))))))
 
 symbol_plain : (c d : ℕ) (m : Mark) (b : Bool) → is_delimiter d ≡ b → symbol_of_two c d ≡ Some m → is_delimiter d ≡ false
 symbol_plain c d m false e s = e

@@ -11,6 +11,8 @@ use Rattle.f95_lexer.specs.Continuation.{ends, HasBody, has_semicolon, parted, c
 use Rattle.a95_base.specs.Rules as refusal
 use Rattle.f95_lexer.specs.Limits.{too_many_lines}
 use Rattle.a95_base.specs.Breaks.{broken_at}
+use Rattle.std.proofs.lemmas.Bool.{true≢false, eqb-true, and_right}
+use Rattle.a95_base.proofs.Tests.{and_second, and_first}
 use Rattle.f95_lexer.specs.Splicing.{Spliced, put, scan}
 use Rattle.f95_lexer.specs.Splicing as splicing
 use Rattle.f95_lexer.proofs.Written.{skip, stay}
@@ -34,24 +36,6 @@ abbrev pub continued_of : List ℕ → Bool
 continued_of [] = false
 continued_of (c ∷ cs) = cond (ends_here c cs) true (continued_of cs)
 
-never : true ≡ false → ⊥
-never e = cc
-
-same_code : (c n : ℕ) → c == n ≡ true → c ≡ n
-same_code c n e = grind (arith, nat_tests)
-
-second : (a b : Bool) → a && b ≡ true → b ≡ true
-second true b e = e
-second false b e = cc
-
-first : (a b : Bool) → a && b ≡ true → a ≡ true
-first true b e = refl
-first false b e = cc
-
-and_false : (a b : Bool) → b ≡ false → a && b ≡ false
-and_false true b e = e
-and_false false b e = refl
-
 -- blanks alone
 
 blank_empty : (gap : List ℕ) → AllPass is_blank gap → is_empty (from_blank gap) ≡ true
@@ -65,7 +49,7 @@ empty_blank (c ∷ cs) e = go (is_blank c) refl (empty_blank cs) e
     go : (b : Bool) → is_blank c ≡ b → (is_empty (from_blank cs) ≡ true → AllPass is_blank cs)
         → is_empty (cond b (from_blank cs) (c ∷ cs)) ≡ true → AllPass is_blank (c ∷ cs)
     go true is more k = (is, more k)
-    go false is more k = absurd (never (sym k))
+    go false is more k = absurd (true≢false (sym k))
 
 -- the code of a line, both ways
 
@@ -80,7 +64,7 @@ code_whole inside [] h = refl
 code_whole None (c ∷ cs) h = go (c == 33) refl (code_whole (opened c) cs (no_comment_rest c cs h))
   where
     go : (b : Bool) → c == 33 ≡ b → code_of (opened c) cs ≡ cs → cond b [] (c ∷ code_of (opened c) cs) ≡ c ∷ cs
-    go true e more = absurd (h [] cs (ap (λ x. x ∷ cs) (same_code c 33 e)) refl)
+    go true e more = absurd (h [] cs (ap (λ x. x ∷ cs) (eqb-true c 33 e)) refl)
     go false e more = ap (λ l. c ∷ l) more
 code_whole (Some d) (c ∷ cs) h = ap (λ l. c ∷ l) (code_whole (kept d c) cs (no_comment_in d c cs h))
 
@@ -92,7 +76,7 @@ code_before None (c ∷ cs) comment h shut = go (c == 33) refl (code_before (ope
   where
     go : (b : Bool) → c == 33 ≡ b → code_of (opened c) (cs ++ 33 ∷ comment) ≡ cs
         → cond b [] (c ∷ code_of (opened c) (cs ++ 33 ∷ comment)) ≡ c ∷ cs
-    go true e more = absurd (h [] cs (ap (λ x. x ∷ cs) (same_code c 33 e)) refl)
+    go true e more = absurd (h [] cs (ap (λ x. x ∷ cs) (eqb-true c 33 e)) refl)
     go false e more = ap (λ l. c ∷ l) more
 code_before (Some d) (c ∷ cs) comment h shut = ap (λ l. c ∷ l) (code_before (kept d c) cs comment (no_comment_in d c cs h) shut)
 
@@ -104,12 +88,12 @@ no_comment_nil : (front comment : List ℕ) → [] ≡ front ++ 33 ∷ comment �
 no_comment_nil [] comment e = cc
 no_comment_nil (c ∷ cs) comment e = cc
 
--- no comment begins at the first character, and none behind it
+-- no comment begins at the and_first character, and none behind it
 no_comment_at : (c : ℕ) (cs : List ℕ) → c == 33 ≡ false → HasNoComment (opened c) cs → (front comment : List ℕ)
     → c ∷ cs ≡ front ++ 33 ∷ comment → open_behind None front ≡ None → ⊥
 no_comment_at c cs other h [] comment e shut =
     let same : c ≡ 33 = cc in
-    never (sym (ap (λ x. x == 33) same) ∙ other)
+    true≢false (sym (ap (λ x. x == 33) same) ∙ other)
 no_comment_at c cs other h (f ∷ fs) comment e shut =
     let same : f ≡ c = cc in
     let rest : cs ≡ fs ++ 33 ∷ comment = cc in
@@ -138,7 +122,7 @@ has_code None (c ∷ cs) = go (c == 33) refl (has_code (opened c) cs)
     go : (b : Bool) → c == 33 ≡ b → IsCode (opened c) cs (code_of (opened c) cs)
         → IsCode None (c ∷ cs) (cond b [] (c ∷ code_of (opened c) cs))
     go true e more =
-        subst (λ x. IsCode None (x ∷ cs) []) (sym (same_code c 33 e))
+        subst (λ x. IsCode None (x ∷ cs) []) (sym (eqb-true c 33 e))
         (commented [] cs (λ front. λ comment. λ k. λ shut. no_comment_nil front comment k) refl)
     go false e more = code_more c cs (code_of (opened c) cs) e more
 has_code (Some d) (c ∷ cs) = code_more_inside d c cs (code_of (kept d c) cs) (has_code (kept d c) cs)
@@ -159,7 +143,7 @@ goes_on_is : (body gap : List ℕ) → AllPass is_blank gap → (body ≡ body_o
 goes_on_is [] gap a =
     (sym (stay (is_empty (from_blank gap)) _ _ (blank_empty gap a)), sym (stay (is_empty (from_blank gap)) _ _ (blank_empty gap a)))
 goes_on_is (c ∷ cs) gap a =
-    let other : ends_here c (cs ++ 38 ∷ gap) ≡ false = and_false (c == 38) _ (before_ampersand cs gap) in
+    let other : ends_here c (cs ++ 38 ∷ gap) ≡ false = and_right (c == 38) _ (before_ampersand cs gap) in
     let rest = goes_on_is cs gap a in (
       ap (λ l. c ∷ l) rest.0 ∙ sym (skip (ends_here c (cs ++ 38 ∷ gap)) _ _ _ other refl),
       rest.1 ∙ sym (skip (ends_here c (cs ++ 38 ∷ gap)) _ _ _ other refl),
@@ -173,7 +157,7 @@ ends_is (c ∷ cs) h = go (ends_here c cs) refl (ends_is cs (λ body. λ gap. λ
     go : (b : Bool) → ends_here c cs ≡ b → (cs ≡ body_of cs) × (false ≡ continued_of cs) → (c ∷ cs ≡ cond b [] (c ∷ body_of cs))
         × (false ≡ cond b true (continued_of cs))
     go true e more =
-        absurd (h [] cs (empty_blank cs (second (c == 38) _ e)) (ap (λ x. x ∷ cs) (same_code c 38 (first (c == 38) _ e))))
+        absurd (h [] cs (empty_blank cs (and_second (c == 38) _ e)) (ap (λ x. x ∷ cs) (eqb-true c 38 (and_first (c == 38) _ e))))
     go false e more = (ap (λ l. c ∷ l) more.0, more.1)
 
 continued_is : (code body : List ℕ) (continued : Bool) → IsContinued code body continued → (body ≡ body_of code)
@@ -190,7 +174,7 @@ not_at : (c : ℕ) (cs : List ℕ) → ends_here c cs ≡ false → ((body gap :
 not_at c cs other h [] gap a e =
     let same : c ≡ 38 = cc in
     let rest : cs ≡ gap = cc in
-    never (sym (ap (λ x. ends_here x cs) same ∙ ap (λ l. is_empty (from_blank l)) rest ∙ blank_empty gap a) ∙ other)
+    true≢false (sym (ap (λ x. ends_here x cs) same ∙ ap (λ l. is_empty (from_blank l)) rest ∙ blank_empty gap a) ∙ other)
 not_at c cs other h (b ∷ bs) gap a e = let rest : cs ≡ bs ++ 38 ∷ gap = cc in h bs gap a rest
 
 continued_more : (c : ℕ) (cs body : List ℕ) (continued : Bool) → ends_here c cs ≡ false → IsContinued cs body continued
@@ -205,8 +189,8 @@ has_ending (c ∷ cs) = go (ends_here c cs) refl (has_ending cs)
     go : (b : Bool) → ends_here c cs ≡ b → IsContinued cs (body_of cs) (continued_of cs)
         → IsContinued (c ∷ cs) (cond b [] (c ∷ body_of cs)) (cond b true (continued_of cs))
     go true e more =
-        subst (λ x. IsContinued (x ∷ cs) [] true) (sym (same_code c 38 (first (c == 38) _ e)))
-        (goes_on [] cs (empty_blank cs (second (c == 38) _ e)))
+        subst (λ x. IsContinued (x ∷ cs) [] true) (sym (eqb-true c 38 (and_first (c == 38) _ e)))
+        (goes_on [] cs (empty_blank cs (and_second (c == 38) _ e)))
     go false e more = continued_more c cs (body_of cs) (continued_of cs) e more
 
 -- each text has a body, and one only
@@ -363,17 +347,17 @@ scan_is None line left (c ∷ cs) h = by_comment (λ o. λ n. λ k. scan_is o li
 
     by_ampersand : ScansRest line cs → (b : Bool) → c == 33 ≡ false → c == 59 ≡ false → c == 38 ≡ b → ScanIs line left cs c
     by_ampersand more true e f g =
-        subst (ScanIs line left cs) (sym (same_code c 38 g)) (ampersand more (is_comment (from_blank cs)) refl)
+        subst (ScanIs line left cs) (sym (eqb-true c 38 g)) (ampersand more (is_comment (from_blank cs)) refl)
     by_ampersand more false e f g = others more e f g
 
     by_semicolon : ScansRest line cs → (b : Bool) → c == 33 ≡ false → c == 59 ≡ b → ScanIs line left cs c
     by_semicolon more true e f =
-        subst (ScanIs line left cs) (sym (same_code c 59 f)) (ap (put 10 line) (more None too_many_lines tt)
+        subst (ScanIs line left cs) (sym (eqb-true c 59 f)) (ap (put 10 line) (more None too_many_lines tt)
         ∙ sym (said_semicolon line left (body_of (code_of None cs)) (continued_of (code_of None cs))))
     by_semicolon more false e f = by_ampersand more (c == 38) e f refl
 
     by_comment : ScansRest line cs → (b : Bool) → c == 33 ≡ b → ScanIs line left cs c
-    by_comment more true e = subst (ScanIs line left cs) (sym (same_code c 33 e)) refl
+    by_comment more true e = subst (ScanIs line left cs) (sym (eqb-true c 33 e)) refl
     by_comment more false e = by_semicolon more (c == 59) e refl
 scan_is (Some d) line left (c ∷ cs) h = by_end (scan_is (kept d c) line left cs (kept_context d c h)) (ends_here c cs) refl
   where

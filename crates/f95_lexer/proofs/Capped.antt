@@ -3,9 +3,9 @@ use Rattle.std.proofs.Common.{◌≡◌, ℕ, pos, ◌+◌, ◌-◌, ◌*◌, �
 use Rattle.std.proofs.Common.{refl, sym, ap, ◌∙◌, ⊎_elim, arith}
 use Rattle.std.proofs.lemmas.Bool.Decides.{nat_tests}
 use Rattle.std.proofs.lemmas.Bool.{cases_lt}
+use Rattle.a95_base.specs.Input.{is_digit}
 use Rattle.f95_lexer.specs.declared.character.Character.{Character}
 use Rattle.f95_lexer.specs.Lexeme.{value_from, integer, front, bytes_of}
-use Rattle.f95_lexer.specs.Characters.{is_digit}
 
 at_least : (n : ℕ) (ds : List ℕ) → 2147483648 ≤ n → 2147483648 ≤ value_from n ds
 at_least n [] h = h

@@ -10,11 +10,12 @@ use Rattle.f95_lexer.specs.declared.splice.Mode.TheVariants.{Fresh, Goes, Inside
 use Rattle.f95_lexer.specs.Characters.{is_blank, from_blank, is_comment, is_empty, AllPass}
 use Rattle.f95_lexer.specs.Lines.{onto, begins_with_feed, text_lines}
 use Rattle.a95_base.specs.Breaks.{broken_at}
+use Rattle.std.proofs.lemmas.Bool.{not-true}
 use Rattle.f95_lexer.specs.Splicing.{Spliced, ends, put, breaks_rule, all_broken, fortieth, scan, begun, line_read}
 use Rattle.f95_lexer.specs.Splicing.{too_long, splice, spliced, unfinished, line_breaks}
 use Rattle.f95_lexer.specs.Lexeme.{bytes_of}
 use Rattle.f95_lexer.specs.Spelling.{is_inside}
-use Rattle.f95_lexer.proofs.Written.{skip, not_true}
+use Rattle.f95_lexer.proofs.Written.{skip}
 use Rattle.f95_lexer.proofs.Balance.{balanced}
 
 abbrev mode_context : Mode → Option ℕ
@@ -61,7 +62,7 @@ scan_leads None line left (c ∷ cs) all =
     (put_leads c line _ (scan_leads (opened c) line left cs all.1))))
 scan_leads (Some d) line left (c ∷ cs) all =
     at_cond (Some d) (c == 38 && is_empty (from_blank cs)) _ _ (ends_leads (Inside d line left))
-    (kept_leads d c line _ (not_true (c == 10) all.0) (scan_leads (kept d c) line left cs all.1))
+    (kept_leads d c line _ (not-true (c == 10) all.0) (scan_leads (kept d c) line left cs all.1))
 
 begun_leads : (m : Mode) (line c : ℕ) (cs : List ℕ) → AllPass is_inside (c ∷ cs) → Leads (mode_context m) (begun m line c cs)
 begun_leads Fresh line c cs all = at_cond None (c == 38) _ _ (breaks_leads None line 6 _) (scan_leads None line 40 (c ∷ cs) all)

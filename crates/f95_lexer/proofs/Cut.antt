@@ -21,6 +21,7 @@ use Rattle.f95_lexer.specs.Statements.{statements_of}
 use Rattle.f95_lexer.specs.Rules.{Numbered, numbered, numbered_from, IsBroken, long_file, breaks_of}
 use Rattle.f95_lexer.specs.declared.token.Statements.{Statements}
 use Rattle.a95_base.specs.declared.source.PhaseError.{PhaseError}
+use Rattle.a95_base.proofs.Lists.{no_member, no_item}
 use Rattle.f95_lexer.specs.Spelling.{Spelled, nothing, next, Cuts}
 use Rattle.f95_lexer.proofs.Balance.{balanced, found_kept}
 use Rattle.f95_lexer.proofs.Continued.{whole_balanced, left_empty, right_empty}
@@ -92,10 +93,6 @@ nothing_goes_on Ended e = refl
 nothing_goes_on (GoesOn None from lines) e = cc
 nothing_goes_on (GoesOn (Some d) from lines) e = cc
 
-no_member : {A : Type 0} (x : A) (xs : List A) → xs ≡ [] → Member xs x → ⊥
-no_member x [] e h = h
-no_member x (y ∷ ys) e h = cc
-
 all_narrow : (n : ℕ) (texts : List (List ℕ))
     → ((line : ℕ) (text : List ℕ) → Member (numbered_from n texts) (numbered line text) → longest_line < length text → ⊥)
     → Every (λ text. length text ≤ longest_line) texts
@@ -119,11 +116,11 @@ unbroken_cuts bytes statements feeds short none are counted =
       short = short;
       narrow =
           all_narrow 1 (text_lines bytes)
-          (λ line. λ text. λ h. λ long. no_member _ _ lines (long_line_broken bytes line text h long));
+          (λ line. λ text. λ h. λ long. no_item _ _ lines (long_line_broken bytes line text h long));
       lines = all.lines;
       read = subst (λ x. HasLines bytes all.lines x) last all.read;
       whole =
-          λ l. λ line. λ rule. λ h. λ b. no_member _ _ lines
+          λ l. λ line. λ rule. λ h. λ b. no_item _ _ lines
           (break_complete bytes all.lines all.behind line rule all.read
           (of_line line rule (record { which = l; has = h; breaks = b })));
       items = items_of (lexemes_of bytes);
@@ -149,12 +146,8 @@ never_goes_on : (lines : List StatementLine) (line rule : ℕ)
 never_goes_on lines line rule whole (of_line n k o) = whole o.which n k o.has o.breaks
 never_goes_on lines line rule whole (no_further inside from count e) = cc
 
-all_none : {A : Type 0} (xs : List A) → ((x : A) → Member xs x → ⊥) → xs ≡ []
-all_none [] f = refl
-all_none (x ∷ xs) f = absurd (f x (inl refl))
-
 cut_lines : (bytes : List ℕ) (statements : List Statement) (feeds : ℕ) → Cuts bytes statements feeds → line_breaks bytes ≡ []
-cut_lines bytes statements feeds c = all_none (line_breaks bytes) (λ b. λ h. ⊎_elim
+cut_lines bytes statements feeds c = no_member (line_breaks bytes) (λ b. λ h. ⊎_elim
     (λ (e : b.rule ≡ 3).
     let long = long_is bytes b h e in
     let narrow : length long.text ≤ longest_line = narrow_at 1 b.line long.text (text_lines bytes) c.narrow long.has in

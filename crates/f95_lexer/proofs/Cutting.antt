@@ -2,6 +2,7 @@
 use Rattle.std.proofs.Common.{◌≡◌, ℕ, suc, ◌-◌, Bool, true, false, ◌&&◌, ◌==◌, cond, nat_lt, slice_index, List, [], ◌∷◌, length}
 use Rattle.std.proofs.Common.{take, drop, map, refl, sym, ap, ◌∙◌, arith}
 use Rattle.std.proofs.lemmas.Bool.Decides.{nat_tests}
+use Rattle.a95_base.proofs.Tests.{and-false}
 use Rattle.bstr.specs.Text.{line_len, no_cr, without_terminator}
 use Rattle.bstr.specs.Text as bstr
 use Rattle.bstr.proofs.lemmas.LineLemmas.{lines-nil, lines-step}
@@ -88,10 +89,6 @@ feed_alone d feed = ap (λ t. cond t (no_cr []) (d ∷ [])) feed
 
 one_before : (c d : ℕ) → d == 10 ≡ true → without_terminator (c ∷ d ∷ []) ≡ cond (c == 13) [] (c ∷ [])
 one_before c d feed = ap (λ t. cond t (no_cr (c ∷ [])) (c ∷ d ∷ [])) feed
-
-and-false : (b : Bool) → b && false ≡ false
-and-false true = refl
-and-false false = refl
 
 pick : (b : Bool) (c : ℕ) (rest : List (List ℕ)) → cond b [] (c ∷ []) ∷ rest ≡ cond (b && true) ([] ∷ rest) (onto c ([] ∷ rest))
 pick true c rest = refl

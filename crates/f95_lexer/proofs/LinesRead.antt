@@ -1,5 +1,5 @@
 -- The lines of a text are read in one way, and splicing them gives what they leave and the rules that they break.
-use Rattle.std.proofs.Common.{◌≡◌, ℕ, ◌+◌, ◌-◌, Bool, true, false, ◌&&◌, ◌==◌, cond, List, [], ◌∷◌, ◌++◌, map, Option, Some, None}
+use Rattle.std.proofs.Common.{◌≡◌, ℕ, ◌+◌, ◌-◌, Bool, true, false, ◌==◌, cond, List, [], ◌∷◌, ◌++◌, map, Option, Some, None}
 use Rattle.std.proofs.Common.{refl, sym, ap, ◌∙◌, subst, inl, ⊎_elim, arith}
 use Rattle.std.proofs.lemmas.Bool.Decides.{nat_tests}
 use Rattle.a95_base.specs.Lists.{Member}
@@ -8,7 +8,7 @@ use Rattle.a95_base.specs.declared.breaks.Break.{Break}
 use Rattle.f95_lexer.specs.declared.splice.Mode.{Mode}
 use Rattle.f95_lexer.specs.declared.splice.Mode.TheVariants.{Fresh, Goes, Inside}
 use Rattle.f95_lexer.specs.Characters.{from_blank, is_empty, is_comment}
-use Rattle.f95_lexer.specs.Continuation.{opened, kept, open_behind, HasBody, Onward, Ended, GoesOn, context, continuation_number}
+use Rattle.f95_lexer.specs.Continuation.{open_behind, HasBody, Onward, Ended, GoesOn, context, continuation_number}
 use Rattle.f95_lexer.specs.Continuation.{StatementLine, begins_with_ampersand, IsAlone, Begins, initial, joined, apart, cut_off}
 use Rattle.f95_lexer.specs.Continuation.{IsRead, more, has_semicolon, after, parted, character, characters, BreaksRule, many_lines}
 use Rattle.f95_lexer.specs.Continuation.{open_text, no_second}
@@ -16,6 +16,8 @@ use Rattle.f95_lexer.specs.Continuation as continuation
 use Rattle.a95_base.specs.Rules as refusal
 use Rattle.f95_lexer.specs.Limits.{too_many_lines}
 use Rattle.a95_base.specs.Breaks.{broken_at}
+use Rattle.std.proofs.lemmas.Bool.{eqb-true}
+use Rattle.a95_base.proofs.Tests.{and_first}
 use Rattle.f95_lexer.specs.Splicing.{Spliced, put, fortieth, all_broken, scan, begun, line_read}
 use Rattle.f95_lexer.specs.Splicing as splicing
 use Rattle.f95_lexer.proofs.Bodies.{code_of, body_of, continued_of, ends_here, has_body, body_is, IsContext, comment_code}
@@ -61,9 +63,6 @@ made before number ampersand only lead inside body continued = record {
 
 abbrev result : StatementLine → Bool → Spliced
 result l only = made l.before l.number (begins_with_ampersand l.text) only l.lead l.inside l.body l.continued
-
-same_code : (c n : ℕ) → c == n ≡ true → c ≡ n
-same_code c n e = grind (arith, nat_tests)
 
 -- what goes on behind a body
 body_mode : (shut : Option ℕ) (number lines : ℕ) (continued semicolon : Bool) →
@@ -133,17 +132,10 @@ no_cons c cs e = cc
 no_code : (inside : Option ℕ) → HasBody inside [] [] true → ⊥
 no_code inside h = let e = (body_is inside [] [] true h).1 in cc
 
-true_not : (b : Bool) → b ≡ true → b ≡ false → ⊥
-true_not b e f = cc
-
 code_begins : (inside : Option ℕ) (c : ℕ) (cs : List ℕ) → c == 33 ≡ false
     → code_of inside (c ∷ cs) ≡ c ∷ code_of (open_behind inside (c ∷ [])) cs
 code_begins None c cs e = skip (c == 33) _ _ _ e refl
 code_begins (Some d) c cs e = refl
-
-and_first : (a b : Bool) → a && b ≡ true → a ≡ true
-and_first true b e = refl
-and_first false b e = cc
 
 alone_is : (inside : Option ℕ) (c : ℕ) (cs : List ℕ) → IsContext inside → c == 33 ≡ false → HasBody inside (c ∷ cs) [] true
     → HasAmpersand inside (c ∷ cs)
@@ -152,7 +144,7 @@ alone_is inside c cs h no_comment b =
     let code = code_begins inside c cs no_comment in
     let rest = code_of (open_behind inside (c ∷ [])) cs in
     let test : ends_here c rest ≡ true = by_test (ends_here c rest) refl (is.0 ∙ ap body_of code) in
-    let same : c ≡ 38 = same_code c 38 (and_first (c == 38) (is_empty (from_blank rest)) test) in
+    let same : c ≡ 38 = eqb-true c 38 (and_first (c == 38) (is_empty (from_blank rest)) test) in
     let here : ends_here 38 (code_of inside cs) ≡ true =
     subst (λ l. ends_here 38 l
     ≡ true) (rest_is same) (subst (λ x. ends_here x (code_of (open_behind inside (x ∷ [])) cs) ≡ true) same test) in

@@ -1,7 +1,6 @@
 -- A text has its lines in one way, and they leave what splicing it leaves and break what splicing it breaks.
 use Rattle.std.proofs.Common.{◌≡◌, ◌⊎◌, ℕ, ◌+◌, Bool, true, false, ◌&&◌, ◌==◌, nat_lt, cond, List, [], ◌∷◌, ◌++◌, length, Option}
-use Rattle.std.proofs.Common.{Some, None, refl, sym, ap, ◌∙◌, subst, inl, inr, ⊎_elim, append-nil, arith}
-use Rattle.std.proofs.lemmas.Bool.Decides.{nat_tests}
+use Rattle.std.proofs.Common.{Some, None, refl, sym, ap, ◌∙◌, subst, inl, inr, ⊎_elim, append-nil}
 use Rattle.a95_base.specs.Lists.{Member}
 use Rattle.a95_base.proofs.Lists.{Member-append_left, Member-append_right, Member-append_cases}
 use Rattle.a95_base.specs.declared.breaks.Break.{Break}
@@ -16,6 +15,7 @@ use Rattle.a95_base.specs.Rules as refusal
 use Rattle.f95_lexer.specs.Limits.{longest_line}
 use Rattle.f95_lexer.specs.Lines.{text_lines}
 use Rattle.a95_base.specs.Breaks.{broken_at}
+use Rattle.std.proofs.lemmas.Bool.{true≢false, eqb-true}
 use Rattle.f95_lexer.specs.Splicing.{Spliced, line_read, too_long, splice, spliced, unfinished, line_breaks}
 use Rattle.f95_lexer.specs.Splicing as splicing
 use Rattle.f95_lexer.proofs.Bodies.{code_of, body_of, continued_of, has_body, body_is, IsContext, open_context}
@@ -41,15 +41,12 @@ behind_ampersand Ended rest = record { lead = []; inside = None; rest = rest; is
 behind_ampersand (GoesOn inside from lines) rest =
     record { lead = []; inside = inside; rest = rest; is = joined inside from lines rest }
 
-same_code : (c n : ℕ) → c == n ≡ true → c ≡ n
-same_code c n e = grind (arith, nat_tests)
-
 how_begun : (before : Onward) (text : List ℕ) → Begun before text
 how_begun before [] = plain before [] refl
 how_begun before (c ∷ cs) = go (c == 38) refl
   where
     go : (b : Bool) → c == 38 ≡ b → Begun before (c ∷ cs)
-    go true e = subst (λ x. Begun before (x ∷ cs)) (sym (same_code c 38 e)) (behind_ampersand before cs)
+    go true e = subst (λ x. Begun before (x ∷ cs)) (sym (eqb-true c 38 e)) (behind_ampersand before cs)
     go false e = plain before (c ∷ cs) e
 
 -- a line of a statement, with its number, after what goes on before it
@@ -74,9 +71,6 @@ only_so before text h =
     let is = body_is (context before) text [] true h in
     sym (ap (λ b. is_empty b && continued_of (code_of (context before) text)) is.0) ∙ sym is.1
 
-never : true ≡ false → ⊥
-never k = cc
-
 found : (before : Onward) (number : ℕ) (text : List ℕ) → Found before number text
 found before number text = go (is_only before text) refl
   where
@@ -98,7 +92,7 @@ found before number text = go (is_only before text) refl
         record {
           line = line_of before number text b.lead b.inside (body_of code) (continued_of code);
           here = (refl, (refl, refl));
-          read = more b.rest (λ h. never (sym (only_so before text h) ∙ e)) b.is (has_body b.inside b.rest);
+          read = more b.rest (λ h. true≢false (sym (only_so before text h) ∙ e)) b.is (has_body b.inside b.rest);
         }
 
 pub record Lines (before : Onward) (number : ℕ) (texts : List (List ℕ)) : Type 0 where

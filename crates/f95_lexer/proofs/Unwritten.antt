@@ -3,19 +3,21 @@ use Rattle.std.proofs.Common.{◌≡◌, ℕ, pos, suc, ◌+◌, ◌-◌, ◌*�
 use Rattle.std.proofs.Common.{◌∷◌, ◌++◌, length, map, take, drop, Option, Some, None, refl, sym, ap, ◌∙◌, subst, arith}
 use Rattle.std.proofs.lemmas.Bool.Decides.{nat_tests}
 use Rattle.std.proofs.lemmas.List.{length_push, length-map, length-append, take_at, drop_at, append_assoc}
+use Rattle.a95_base.proofs.Tests.{and_second, equals_itself}
+use Rattle.a95_base.specs.Input.{is_digit}
 use Rattle.f95_lexer.specs.declared.lexeme.Lexeme.{Lexeme}
 use Rattle.f95_lexer.specs.declared.lexeme.Lexeme.TheVariants as lexeme
 use Rattle.f95_lexer.specs.declared.lexeme.Found.{Found}
 use Rattle.f95_lexer.specs.declared.token.Mark.{Mark}
 use Rattle.f95_lexer.specs.declared.token.Mark.TheVariants as mark
-use Rattle.f95_lexer.specs.Characters.{is_blank, is_letter, is_digit, is_name, is_delimiter, lower, AllPass, begins}
+use Rattle.f95_lexer.specs.Characters.{is_blank, is_letter, is_name, is_delimiter, lower, AllPass, begins}
 use Rattle.f95_lexer.specs.Lexeme.{front, behind_front, is_nil, begins_with, found, found_at, word_at, word_to_point, pointed}
 use Rattle.f95_lexer.specs.Lexeme.{value_from, clings, taken, is_dotted, number_at, Literal, literal, text_at, symbol, symbol_at}
 use Rattle.f95_lexer.specs.Lexeme.{symbol_of_one, symbol_of_two, longer_or}
 use Rattle.f95_lexer.specs.Statements.{rules_of}
 use Rattle.f95_lexer.specs.Spelling.{SpellsWord, SpellsNumber, SpellsText, SpellsDotted, SpellsMark, doubled, is_inside}
 use Rattle.f95_lexer.specs.Spelling.{symbol_text}
-use Rattle.f95_lexer.proofs.Written.{skip, stay, taken_none, same_one}
+use Rattle.f95_lexer.proofs.Written.{skip, stay, taken_none}
 
 -- A lexeme as it is written, with what follows.
 abbrev pub IsWritten : Lexeme → ℕ → List ℕ → List ℕ → Type 0
@@ -200,7 +202,7 @@ text_parts d true (c ∷ cs) feed =
       if_closed = λ closed.
           let t = (text_parts d false cs feed).if_closed closed in
           let bytes = (literal d false cs).bytes in
-          let written : doubled d (d ∷ bytes) ≡ d ∷ d ∷ doubled d bytes = stay (d == d) _ _ (same_one d) in
+          let written : doubled d (d ∷ bytes) ≡ d ∷ d ∷ doubled d bytes = stay (d == d) _ _ (equals_itself d) in
           record {
             rest = t.rest;
             is = ap (λ x. d ∷ x ∷ cs) same ∙ ap (λ l. d ∷ d ∷ l) t.is ∙ sym (ap (λ l. l ++ (d ∷ t.rest)) written);
@@ -251,10 +253,6 @@ front_behind p (c ∷ cs) = go (p c) (front_behind p cs)
     go true more = ap (λ l. c ∷ l) more
     go false more = refl
 
-pub second : (a b : Bool) → a && b ≡ true → b ≡ true
-second true b e = e
-second false b e = cc
-
 no_rule : (b : Bool) (r : ℕ) → cond b [] (r ∷ []) ≡ [] → b ≡ true
 no_rule true r e = refl
 no_rule false r e = cc
@@ -269,7 +267,7 @@ dotted_cases cs true test = record {
       let rest = drop 1 (behind_front is_letter cs) in
       let written = letters ++ 46 ∷ [] in
       let point : behind_front is_letter cs ≡ 46 ∷ rest =
-      begun_by 46 (behind_front is_letter cs) (second (not (is_nil letters)) (begins_with 46 (behind_front is_letter cs)) test) in
+      begun_by 46 (behind_front is_letter cs) (and_second (not (is_nil letters)) (begins_with 46 (behind_front is_letter cs)) test) in
       let apart : cs ≡ written ++ rest =
       front_behind is_letter cs ∙ ap (λ l. letters ++ l) point ∙ sym (append_assoc letters (46 ∷ []) rest) in
       let count : length written ≡ length w + 1 = omega (arith, length_push letters 46, length-map letters lower) in

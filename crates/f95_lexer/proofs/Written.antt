@@ -4,11 +4,14 @@ use Rattle.std.proofs.Common.{List, [], ◌∷◌, ◌++◌, length, map, Option
 use Rattle.std.proofs.Common.{arith}
 use Rattle.std.proofs.lemmas.Bool.Decides.{nat_tests}
 use Rattle.std.proofs.lemmas.List.{length_push, length-map}
+use Rattle.std.proofs.lemmas.Bool.{not-true}
+use Rattle.a95_base.proofs.Tests.{equals_itself}
+use Rattle.a95_base.specs.Input.{is_digit}
 use Rattle.f95_lexer.specs.declared.lexeme.Lexeme.{Lexeme}
 use Rattle.f95_lexer.specs.declared.lexeme.Lexeme.TheVariants as lexeme
 use Rattle.f95_lexer.specs.declared.token.Mark.{Mark}
 use Rattle.f95_lexer.specs.declared.token.Mark.TheVariants as mark
-use Rattle.f95_lexer.specs.Characters.{is_blank, is_letter, is_digit, is_name, is_delimiter, lower, AllPass, begins}
+use Rattle.f95_lexer.specs.Characters.{is_blank, is_letter, is_name, is_delimiter, lower, AllPass, begins}
 use Rattle.f95_lexer.specs.Lexeme.{front, behind_front, is_nil, begins_with, found, found_at, word_at, word_to_point, pointed}
 use Rattle.f95_lexer.specs.Lexeme.{value_from, integer, clings, taken, begins_dotted, is_dotted, number_at, Literal, literal}
 use Rattle.f95_lexer.specs.Lexeme.{one_more, holds, ended, text_at, text_lexeme, longer_or}
@@ -98,20 +101,13 @@ number_found c w rest e all none apart small =
 abbrev closed_text : List ℕ → ℕ → Literal
 closed_text bytes n = record { bytes = bytes; taken = n; closed = true }
 
-pub not_true : (b : Bool) → not b ≡ true → b ≡ false
-not_true true e = cc
-not_true false e = refl
-
-pub same_one : (d : ℕ) → d == d ≡ true
-same_one d = grind (arith, nat_tests)
-
 -- right behind a delimiter that isn't doubled
 closes : (d : ℕ) (rest : List ℕ) → begins (λ c. c == d) rest ≡ false → literal d true rest ≡ ended true
 closes d [] none = refl
 closes d (c ∷ cs) none = skip (c == d) _ _ _ none refl
 
 delimiter_met : (d : ℕ) (cs : List ℕ) → d == 10 ≡ false → literal d false (d ∷ cs) ≡ one_more (literal d true cs)
-delimiter_met d cs feed = skip (d == 10) _ _ _ feed (stay (d == d) _ _ (same_one d))
+delimiter_met d cs feed = skip (d == 10) _ _ _ feed (stay (d == d) _ _ (equals_itself d))
 
 by_delimiter : (d c : ℕ) (cs rest : List ℕ) (b : Bool) → c == d ≡ b → d == 10 ≡ false → c == 10 ≡ false
     → literal d false (doubled d cs ++ (d ∷ rest)) ≡ closed_text cs (length (doubled d cs) + 1)
@@ -122,7 +118,7 @@ by_delimiter d c cs rest true e feed other more =
     let is : d ≡ c = grind (arith, nat_tests) in
     let count : n + 1 + 1 + 1 ≡ suc (suc n) + 1 = omega arith in
     delimiter_met d (d ∷ (doubled d cs ++ (d ∷ rest))) feed
-    ∙ ap one_more (stay (d == d) _ _ (same_one d) ∙ ap (holds d) more)
+    ∙ ap one_more (stay (d == d) _ _ (equals_itself d) ∙ ap (holds d) more)
     ∙ ap (λ x. closed_text (x ∷ cs) (n + 1 + 1 + 1)) is ∙ ap (closed_text (c ∷ cs)) count
 by_delimiter d c cs rest false e feed other more =
     let n = length (doubled d cs) in
@@ -133,7 +129,7 @@ literal_is : (d : ℕ) (bytes rest : List ℕ) → d == 10 ≡ false → AllPass
     → literal d false (doubled d bytes ++ (d ∷ rest)) ≡ closed_text bytes (length (doubled d bytes) + 1)
 literal_is d [] rest feed inside none = delimiter_met d rest feed ∙ ap one_more (closes d rest none)
 literal_is d (c ∷ cs) rest feed inside none =
-    by_delimiter d c cs rest (c == d) refl feed (not_true (c == 10) inside.0) (literal_is d cs rest feed inside.1 none)
+    by_delimiter d c cs rest (c == d) refl feed (not-true (c == 10) inside.0) (literal_is d cs rest feed inside.1 none)
 
 pub text_found : (d : ℕ) (bytes rest : List ℕ) → is_delimiter d ≡ true → AllPass is_inside bytes → begins (λ c. c == d) rest ≡ false
     → found_at d ((doubled d bytes ++ d ∷ []) ++ rest) ≡ found (lexeme.Text bytes) (length (doubled d bytes ++ d ∷ []))

@@ -1,5 +1,6 @@
 -- Kinds of characters, and what of a list of them is of a kind.
 use Rattle.std.specs.Prelude.{◌≡◌, ℕ, ◌+◌, Bool, true, false, ◌&&◌, ◌||◌, ◌==◌, nat_le, List, [], ◌∷◌, if◌then◌else◌}
+use Rattle.a95_base.specs.Input.{is_digit}
 use Rattle.a95_base.specs.Lists.{Every}
 
 -- a tab counts as a blank
@@ -8,9 +9,6 @@ is_blank c = c == 32 || c == 9
 
 abbrev pub is_letter : ℕ → Bool
 is_letter c = (nat_le 97 c && nat_le c 122) || (nat_le 65 c && nat_le c 90)
-
-abbrev pub is_digit : ℕ → Bool
-is_digit c = nat_le 48 c && nat_le c 57
 
 -- what may stand in a word behind its first letter
 abbrev pub is_name : ℕ → Bool

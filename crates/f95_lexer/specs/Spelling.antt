@@ -6,10 +6,11 @@ use Rattle.f95_lexer.specs.declared.token.Mark.TheVariants as mark
 use Rattle.f95_lexer.specs.declared.token.Token.{Token}
 use Rattle.f95_lexer.specs.declared.token.Token.TheVariants as token
 use Rattle.f95_lexer.specs.declared.token.Statement.{Statement}
-use Rattle.f95_lexer.specs.Characters.{AllPass, begins, is_blank, is_letter, is_digit, is_name, is_delimiter, lower}
+use Rattle.f95_lexer.specs.Characters.{AllPass, begins, is_blank, is_letter, is_name, is_delimiter, lower}
 use Rattle.a95_base.specs.Lists.{Every, Member}
 use Rattle.f95_lexer.specs.Continuation.{Ended, StatementLine, HasLines, all_characters, BreaksRule}
 use Rattle.a95_base.specs.Limits.{longest_word}
+use Rattle.a95_base.specs.Input.{is_digit}
 use Rattle.f95_lexer.specs.Limits.{longest_file, longest_line}
 use Rattle.f95_lexer.specs.Lines.{feeds_of, text_lines}
 use Rattle.f95_lexer.specs.Lexeme.{bytes_of, value_from, clings, is_dotted}

@@ -1,6 +1,7 @@
 //! Characters with their lines, and the kinds of characters.
 ghost use Rattle.std.specs.Prelude.{◌≡◌};
-ghost use Rattle.f95_lexer.specs.Characters.{is_blank, is_letter, is_digit, is_name, is_delimiter, lower};
+ghost use Rattle.a95_base.specs.Input.{is_digit};
+ghost use Rattle.f95_lexer.specs.Characters.{is_blank, is_letter, is_name, is_delimiter, lower};
 
 /// A character of a statement, with its line. A line feed ends a statement.
 #[derive(Clone, Copy)]

@@ -1,10 +1,11 @@
 //! What stands at a place of the spliced characters: the longest word, number, text, dotted word or symbol that begins there.
 ghost use Rattle.std.specs.Prelude.{◌≡◌, ◌∷◌, ◌+◌, ◌-◌, ◌*◌, ◌≤◌, min, length, IfOk, IsTrue, nat_eq};
 ghost use Rattle.std.specs.Cmp.Lexicographic.{pointwise};
+ghost use Rattle.a95_base.specs.Input.{is_digit};
 ghost use Rattle.f95_lexer.specs.Lexeme.{bytes_of, front, behind_front, word_at, is_word, is_dotted, word_to_point, begins_with};
 ghost use Rattle.f95_lexer.specs.Lexeme.{begins_dotted, pointed, clings, taken, value_from, integer, number_at, literal, text_at};
 ghost use Rattle.f95_lexer.specs.Lexeme.{symbol_of_one, symbol_of_two, symbol_at, found_at};
-ghost use Rattle.f95_lexer.specs.Characters.{is_letter, is_name, is_digit, lower};
+ghost use Rattle.f95_lexer.specs.Characters.{is_letter, is_name, lower};
 
 use crate::character::{Character, is_blank, is_delimiter, is_digit, is_letter, is_name, lower};
 use crate::token::Mark;

@@ -1,9 +1,10 @@
 -- What is printed is read again: the statements of a body.
-use Rattle.std.proofs.Common.{◌≡◌, Bool, true, false, List, [], ◌∷◌, ◌++◌, map, Option, Some, None, sym, ◌∙◌, ap, subst, refl}
+use Rattle.std.proofs.Common.{◌≡◌, true, List, [], ◌∷◌, ◌++◌, map, Option, Some, None, sym, ◌∙◌, ap, subst, refl}
 use Rattle.std.proofs.Common.{append_assoc, append-nil}
 use Rattle.std.specs.Prelude.{◌&&◌, option_map}
 use Rattle.a95_base.specs.Lists.{Every}
 use Rattle.a95_base.specs.declared.source.Line.{Line}
+use Rattle.std.proofs.lemmas.Bool.{and_parts}
 use Rattle.f95_tree.specs.Forms.{Word}
 use Rattle.f95_tree.specs.declared.terminal.UnitWord.{UnitWord}
 use Rattle.f95_tree.specs.declared.action.Action.{Action}
@@ -40,14 +41,9 @@ pub forms_append : (t u : Text) → forms_of (t ++ u) ≡ forms_of t ++ forms_of
 forms_append [] u = refl
 forms_append (p ∷ t) u = ap (λ z. bare p ∷ z) (forms_append t u)
 
-pub both : (a b : Bool) → (a && b) ≡ true → (a ≡ true) × (b ≡ true)
-both true true h = (refl, refl)
-both true false h = absurd (cc)
-both false b h = absurd (cc)
-
 pub all_both : (t u : Text) → all_stand (t ++ u) ≡ true → (all_stand t ≡ true) × (all_stand u ≡ true)
 all_both [] u h = (refl, h)
-all_both (p ∷ t) u h = let a = both p.stands (all_stand (t ++ u)) h in let b = all_both t u a.1 in
+all_both (p ∷ t) u h = let a = and_parts p.stands (all_stand (t ++ u)) h in let b = all_both t u a.1 in
     (ap (λ x. x && all_stand t) a.0 ∙ b.0, b.1)
 
 pub nothing : (c : Context) (o : Option Body) → Reads c o [] o
@@ -74,10 +70,6 @@ to c o q r t is h = subst (λ z. Reads c o t z) is h
 pub rewritten : (c : Context) (o r : Option Body) (t u : Text) → t ≡ u → (all_stand u ≡ true → Reads c o u r) → all_stand t ≡ true →
     Reads c o t r
 rewritten c o r t u is h s = subst (λ z. Reads c o z r) (sym is) (h (sym (ap all_stand is) ∙ s))
-
-pub every_inside : {A : Type 0} (S : A → Type 0) (xs : List ((x : A) × S x)) → Every S (map (λ (p : (x : A) × S x). p.0) xs)
-every_inside S [] = tt
-every_inside S (p ∷ xs) = (p.1, every_inside S xs)
 
 abbrev pub firsts : {A : Type 0} (S : A → Type 0) → List ((x : A) × S x) → List A
 firsts {A} S xs = map (λ (p : (x : A) × S x). p.0) xs
@@ -117,7 +109,7 @@ alone : (c : Context) (fs : List Frame) (done : List Statement) (x : Statement) 
     Reads c (Some (body fs (inner.Statements done))) (statement_text x (context c fs)) (Some (more fs done x))
 alone c fs done x l f a moves is = rewritten c _ _ _ _ is (λ s.
     one c (body fs (inner.Statements done)) (ordinary (context c fs) l f a) (Some (more fs done x))
-    (moves ∙ ap (λ b. only_if b (more fs done x)) (both (action_stands (context c fs) a) true s).0))
+    (moves ∙ ap (λ b. only_if b (more fs done x)) (and_parts (action_stands (context c fs) a) true s).0))
 
 pub read_action : (l : Line) (a : Action) → ReadsStatement (statement.Action l a)
 read_action l a c fs done = alone c fs done (statement.Action l a) l (of.Action a) a refl
@@ -138,7 +130,7 @@ read_do l n k xs e h c fs done =
     first c (body fs (inner.Statements done)) (opening l (block_of.Do n k) d) (Some (body (f ∷ fs) (inner.Statements []))) _ _ refl
     (after c _ (Some (body (f ∷ fs) (inner.Statements xs))) _ t (q ∷ []) (every_read xs h c (f ∷ fs) [] a.0)
     (one c (body (f ∷ fs) (inner.Statements xs)) q (Some (more fs done (statement.Do l n k xs e)))
-    (ap (λ z. Some (more fs done (statement.Do l n k xs z))) (ending_is e (both (is_absent e.word) true a.1).0)))))
+    (ap (λ z. Some (more fs done (statement.Do l n k xs z))) (ending_is e (and_parts (is_absent e.word) true a.1).0)))))
 
 -- ---- IF
 
@@ -251,4 +243,4 @@ read_if_block l n e xs bs o end hx hb ho c fs done =
     (after c _ (Some po.next) _ tl (q ∷ []) po.reads
     (one c po.next q (Some (more fs done (statement.IfBlock l n e xs bs o end)))
     (po.on_end end.line end.name ∙ ap (λ z. Some (more fs done (statement.IfBlock l n e xs bs o z)))
-    (ending_is end (both (is_absent end.word) true ao.1).0)))))))
+    (ending_is end (and_parts (is_absent end.word) true ao.1).0)))))))

@@ -1,35 +1,12 @@
 -- What is open around a statement, counted and searched from the innermost.
-use Rattle.std.proofs.Common.{
-  ◌≡◌,
-  ℕ,
-  suc,
-  ◌+◌,
-  Bool,
-  true,
-  false,
-  ◌||◌,
-  List,
-  [],
-  ◌∷◌,
-  ◌++◌,
-  length,
-  reverse,
-  Option,
-  Some,
-  None,
-  ◌∙◌,
-  ap,
-  refl,
-  sym,
-  arith,
-}
+use Rattle.std.proofs.Common.{◌≡◌, ℕ, suc, ◌+◌, Bool, true, false, ◌||◌, List, [], ◌∷◌, ◌++◌, length, reverse, Option, Some, None, ◌∙◌, ap, refl, arith}
 use Rattle.std.proofs.lemmas.List.{reverse-append}
+use Rattle.f95_nesting.proofs.Sound.{blocks_in}
 use Rattle.f95_tree.specs.Forms.{Word}
 use Rattle.f95_nesting.specs.declared.open.Block.{Block}
 use Rattle.f95_nesting.specs.declared.open.Block.TheVariants as block
 use Rattle.f95_nesting.specs.declared.open.Frame.{Frame}
 use Rattle.f95_nesting.specs.declared.open.WhereFrame.{WhereFrame}
-use Rattle.f95_nesting.specs.Lists.{some}
 use Rattle.f95_nesting.specs.Placed.{Context, leaves, in_main, in_procedure, is_named_among}
 use Rattle.f95_nesting.specs.Machine.{inside, context, deep}
 use Rattle.f95_nesting.specs.Kinds.{unit_context, is_do, is_do_of}
@@ -38,16 +15,9 @@ pub wheres_deep : (d : ℕ) (ws : List WhereFrame) → suc (deep d ws) ≡ d + l
 wheres_deep d [] = omega arith
 wheres_deep d (w ∷ ws) = omega (arith, wheres_deep d ws)
 
-inside_blocks : (b : Block) (c : Context) → (inside b c).blocks ≡ suc c.blocks
-inside_blocks (block.Do h) c = refl
-inside_blocks (block.If _) c = refl
-inside_blocks (block.ElseIf _ _ _ _) c = refl
-inside_blocks (block.Else _ _ _ _ _) c = refl
-inside_blocks (block.Case _ _ _) c = refl
-
 blocks_of : (p : Bool) (fs : List Frame) → (context (unit_context p) fs).blocks ≡ length fs
 blocks_of p [] = refl
-blocks_of p (f ∷ fs) = inside_blocks f.block (context (unit_context p) fs) ∙ ap suc (blocks_of p fs)
+blocks_of p (f ∷ fs) = blocks_in f.block (context (unit_context p) fs) ∙ ap suc (blocks_of p fs)
 
 pub main_blocks : (fs : List Frame) → (context in_main fs).blocks ≡ length fs
 main_blocks fs = blocks_of false fs

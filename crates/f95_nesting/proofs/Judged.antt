@@ -13,8 +13,11 @@ use Rattle.f95_nesting.specs.Nesting.{Lined, bare, forms_of, Nests, Begins, Stan
 use Rattle.f95_nesting.specs.Nesting.{unended, most_blocks}
 use Rattle.f95_nesting.specs.Machine.{move, run, start, mark, mark_of}
 use Rattle.a95_base.specs.declared.breaks.Break.{Break}
-use Rattle.a95_base.specs.Breaks.{broken_at}
-use Rattle.f95_nesting.specs.Breaks.{noted, place_breaks, then_breaks, step_breaks, passed, end_breaks, breaks}
+use Rattle.a95_base.specs.Breaks.{broken_at, noted}
+use Rattle.a95_base.proofs.Lists.{Member-append_left, Member-append_right, Member-append_cases}
+use Rattle.a95_base.proofs.First.{noted_here}
+use Rattle.f95_nesting.proofs.Again.{forms_append}
+use Rattle.f95_nesting.specs.Breaks.{place_breaks, then_breaks, step_breaks, passed, end_breaks, breaks}
 use Rattle.f95_nesting.proofs.Complete.{run_append}
 use Rattle.f95_nesting.proofs.Sources.{stops_stay}
 use Rattle.f95_nesting.proofs.Exact.{marks, bare_mark, forms_marks, text_read, nests_read, read_nests, going_begins, ended_begins}
@@ -25,20 +28,6 @@ use Rattle.f95_nesting.proofs.Exact.{stopped_begins_none, unstopped_begins}
 either : {A B C : Type 0} → (A → C) → (B → C) → A ⊎ B → C
 either f g (inl a) = f a
 either f g (inr b) = g b
-
-member_left : {A : Type 0} (xs ys : List A) (y : A) → Member xs y → Member (xs ++ ys) y
-member_left [] ys y m = absurd m
-member_left (x ∷ xs) ys y (inl e) = inl e
-member_left (x ∷ xs) ys y (inr m) = inr (member_left xs ys y m)
-
-member_right : {A : Type 0} (xs ys : List A) (y : A) → Member ys y → Member (xs ++ ys) y
-member_right [] ys y m = m
-member_right (x ∷ xs) ys y m = inr (member_right xs ys y m)
-
-member_either : {A : Type 0} (xs ys : List A) (y : A) → Member (xs ++ ys) y → Member xs y ⊎ Member ys y
-member_either [] ys y m = inr m
-member_either (x ∷ xs) ys y (inl e) = inl (inl e)
-member_either (x ∷ xs) ys y (inr m) = either (λ n. inl (inr n)) (λ n. inr n) (member_either xs ys y m)
 
 -- ---- runs in two parts
 
@@ -87,7 +76,7 @@ place_broken forms feeds p c st m =
     either (λ n. noted_broken forms feeds p.misnamed (broken_at p.line.0 wrong_construct_name) c (λ h. wrong_name p st h) n)
     (λ n. noted_broken forms feeds (nat_lt most_blocks p.depth) (broken_at p.line.0 too_many_blocks) c
     (λ h. many_blocks p st (ltb-true most_blocks p.depth h)) n)
-    (member_either (noted p.misnamed (broken_at p.line.0 wrong_construct_name))
+    (Member-append_cases (noted p.misnamed (broken_at p.line.0 wrong_construct_name))
     (noted (nat_lt most_blocks p.depth) (broken_at p.line.0 too_many_blocks)) c m)
 
 -- the state behind a statement more
@@ -132,7 +121,7 @@ passed_broken (f ∷ rest) before feeds c m =
     (λ n. subst (λ z. IsBroken z feeds c.line c.rule) (append_assoc before (f ∷ []) rest)
     (passed_broken rest (before ++ f ∷ []) feeds c
     (subst (λ z. Member (passed z rest) c) (sym (run_append before (f ∷ []) start)) n)))
-    (member_either (step_breaks (run start before) f) (passed (move (run start before) f.0 f.1) rest) c m)
+    (Member-append_cases (step_breaks (run start before) f) (passed (move (run start before) f.0 f.1) rest) c m)
 
 end_broken : (forms : List Lined) (feeds : ℕ) (s : State) (c : Break) → run start forms ≡ s → Member (end_breaks feeds s) c →
     IsBroken forms feeds c.line c.rule
@@ -146,7 +135,7 @@ end_broken forms feeds state.Stops c is m = absurd m
 pub broken_is : (forms : List Lined) (feeds : ℕ) (c : Break) → Member (breaks forms feeds) c → IsBroken forms feeds c.line c.rule
 broken_is forms feeds c m =
     either (λ n. passed_broken forms [] feeds c n) (λ n. end_broken forms feeds (run start forms) c refl n)
-    (member_either (passed start forms) (end_breaks feeds (run start forms)) c m)
+    (Member-append_cases (passed start forms) (end_breaks feeds (run start forms)) c m)
 
 -- ---- what is broken is broken along the run
 
@@ -154,10 +143,10 @@ broken_is forms feeds c m =
 met : (forms before : List Lined) (f : Lined) (after : List Lined) (feeds : ℕ) (c : Break) → forms ≡ before ++ f ∷ after →
     Member (step_breaks (run start before) f) c → Member (breaks forms feeds) c
 met forms before f after feeds c is m =
-    member_left (passed start forms) (end_breaks feeds (run start forms)) c
+    Member-append_left (passed start forms) (end_breaks feeds (run start forms)) c
     (subst (λ z. Member z c) (sym (ap (passed start) is ∙ passed_append before (f ∷ after) start))
-    (member_right (passed start before) (passed (run start before) (f ∷ after)) c
-    (member_left (step_breaks (run start before) f) (passed (move (run start before) f.0 f.1) after) c m)))
+    (Member-append_right (passed start before) (passed (run start before) (f ∷ after)) c
+    (Member-append_left (step_breaks (run start before) f) (passed (move (run start before) f.0 f.1) after) c m)))
 
 stops_noted : (s r : State) (f : Lined) → move s f.0 f.1 ≡ r → (s ≡ state.Stops → ⊥) → r ≡ state.Stops →
     Member (step_breaks s f) (broken_at f.0.0 wrong_nesting)
@@ -192,10 +181,6 @@ goes_noted (state.Goes ms q) state.Stops p c moves goes is m = absurd (goes refl
 goes_noted (state.Ended x) r p c moves goes is m = absurd (goes (sym moves))
 goes_noted state.Stops r p c moves goes is m = absurd (goes (sym moves))
 
-forms_append : (t u : Text) → forms_of (t ++ u) ≡ forms_of t ++ forms_of u
-forms_append [] u = refl
-forms_append (p ∷ t) u = ap (λ z. bare p ∷ z) (forms_append t u)
-
 stands_met : (forms : List Lined) (feeds : ℕ) (p : Placed) (c : Break) → Stands forms p → Member (place_breaks p) c →
     Member (breaks forms feeds) c
 stands_met forms feeds p c st m =
@@ -218,10 +203,6 @@ goes_at_end forms feeds (state.Goes ms p) is b none = inl refl
 goes_at_end forms feeds (state.Ended x) is b none = absurd (none x (read_nests forms x is))
 goes_at_end forms feeds state.Stops is b none = absurd (stopped_begins_none forms is b)
 
-noted_here : (t : Bool) (b : Break) → t ≡ true → Member (noted t b) b
-noted_here true b h = inl refl
-noted_here false b h = absurd (cc)
-
 -- what is broken is broken along the run
 pub is_broken : (forms : List Lined) (feeds line rule : ℕ) → IsBroken forms feeds line rule →
     Member (breaks forms feeds) (broken_at line rule)
@@ -231,12 +212,12 @@ is_broken forms feeds line rule (no_nesting before f after is begins none) =
     (stops_or (before ++ f ∷ []) (move (run start before) f.0 f.1) (run_append before (f ∷ []) start) none))
 is_broken forms feeds line rule (wrong_name p st h) =
     stands_met forms feeds p (broken_at p.line.0 wrong_construct_name) st
-    (member_left (noted p.misnamed (broken_at p.line.0 wrong_construct_name)) _ _
+    (Member-append_left (noted p.misnamed (broken_at p.line.0 wrong_construct_name)) _ _
     (noted_here p.misnamed (broken_at p.line.0 wrong_construct_name) h))
 is_broken forms feeds line rule (many_blocks p st h) =
     stands_met forms feeds p (broken_at p.line.0 too_many_blocks) st
-    (member_right (noted p.misnamed (broken_at p.line.0 wrong_construct_name)) _ _
+    (Member-append_right (noted p.misnamed (broken_at p.line.0 wrong_construct_name)) _ _
     (noted_here (nat_lt most_blocks p.depth) (broken_at p.line.0 too_many_blocks) (lt-ltb most_blocks p.depth h)))
 is_broken forms feeds line rule (unended begins none) =
-    member_right (passed start forms) (end_breaks feeds (run start forms)) (broken_at (feeds + 1) no_end)
+    Member-append_right (passed start forms) (end_breaks feeds (run start forms)) (broken_at (feeds + 1) no_end)
     (goes_at_end forms feeds (run start forms) refl begins none)

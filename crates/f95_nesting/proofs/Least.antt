@@ -1,6 +1,5 @@
 -- The first of what is broken along the run is the least of all that the forms break; where nothing is, they nest.
-use Rattle.std.proofs.Common.{◌≡◌, ℕ, List, [], ◌∷◌, ◌++◌, Some, sym, ◌∙◌, ap, refl, inl}
-use Rattle.a95_base.specs.Lists.{Member}
+use Rattle.std.proofs.Common.{◌≡◌, ℕ, List, [], ◌∷◌, ◌++◌, Some, sym, ◌∙◌, ap, refl}
 use Rattle.f95_tree.specs.declared.source.Source.{Source}
 use Rattle.f95_nesting.specs.declared.open.State.{State}
 use Rattle.f95_nesting.specs.declared.open.State.TheVariants as state
@@ -12,10 +11,7 @@ use Rattle.f95_nesting.proofs.Judged.{broken_is, is_broken}
 use Rattle.a95_base.specs.declared.breaks.Break.{Break}
 use Rattle.a95_base.specs.Breaks.{IsLeast, AreBroken, first_of}
 use Rattle.a95_base.proofs.First.{first_is_least}
-
-none_of : {A : Type 0} (xs : List A) → ((x : A) → Member xs x → ⊥) → xs ≡ []
-none_of [] h = refl
-none_of (x ∷ xs) h = absurd (h x (inl refl))
+use Rattle.a95_base.proofs.Lists.{no_member}
 
 pub parts_empty : {A : Type 0} (xs ys : List A) → xs ++ ys ≡ [] → (xs ≡ []) × (ys ≡ [])
 parts_empty [] ys h = (refl, h)
@@ -47,7 +43,7 @@ nested_at forms feeds state.Stops is goes none = absurd (goes refl)
 -- forms that break no rule nest
 pub unbroken_nests : (forms : List Lined) (feeds : ℕ) → ((line rule : ℕ) → IsBroken forms feeds line rule → ⊥) → Nested forms
 unbroken_nests forms feeds h =
-    let none = none_of (breaks forms feeds) (λ b m. h b.line b.rule (broken_is forms feeds b m)) in
+    let none = no_member (breaks forms feeds) (λ b m. h b.line b.rule (broken_is forms feeds b m)) in
     let e = parts_empty (passed start forms) (end_breaks feeds (run start forms)) none in
     nested_at forms feeds (run start forms) refl (passed_goes forms start (λ (z : start ≡ state.Stops). absurd (cc)) e.0) e.1
 

@@ -3,13 +3,15 @@ use Rattle.std.proofs.Common.{◌≡◌, ℕ, suc, Bool, true, false, List, [], 
 use Rattle.std.proofs.Common.{refl, append_assoc, append-nil}
 use Rattle.std.specs.Prelude.{not, ◌&&◌, ◌||◌}
 use Rattle.a95_base.specs.Lists.{Every}
-use Rattle.f95_tree.specs.declared.source.Statement.TheOpen.{Statement-F, Branch-F, Case-F, Otherwise-F}
+use Rattle.f95_tree.specs.declared.source.Statement.TheOpen.{Statement-F}
 use Rattle.f95_tree.specs.declared.source.Statement.TheOpen as layer
 use Rattle.f95_tree.specs.declared.source.Statement.TheFolds.{ind-Statement, map-Statement}
-use Rattle.f95_tree.specs.declared.source.WhereStatement.TheOpen.{WhereStatement-F, ElseWhere-F, WhereBlock-F}
+use Rattle.f95_tree.specs.declared.source.WhereStatement.TheOpen.{WhereStatement-F}
 use Rattle.f95_tree.specs.declared.source.WhereStatement.TheOpen as where_layer
 use Rattle.f95_tree.specs.declared.source.WhereStatement.TheFolds.{ind-WhereBlock, map-WhereStatement}
 use Rattle.a95_base.specs.declared.source.Line.{Line}
+use Rattle.std.proofs.lemmas.Bool.{and_parts, not-true}
+use Rattle.a95_base.proofs.Lists.{every_inside}
 use Rattle.f95_tree.specs.Forms.{Word}
 use Rattle.f95_tree.specs.declared.action.Action.TheVariants as act
 use Rattle.f95_tree.specs.declared.action.Header.{Header}
@@ -48,7 +50,7 @@ use Rattle.f95_nesting.specs.Machine.{end_where, more_where, elsewhere_of, where
 use Rattle.f95_nesting.proofs.Texts.{last_unmasked, last_snoc, elsewheres_last, where_statements_text, map_snoc, text-Select}
 use Rattle.f95_nesting.proofs.Texts.{text-Where, text-Forall, range-Case, where_text-Assignment, where_text-Where, where_text-Block}
 use Rattle.f95_nesting.proofs.Texts.{other-ElseWhere, text-WhereBlock}
-use Rattle.f95_nesting.proofs.Again.{Reads, all_both, both, nothing, one, first, after, to, rewritten, every_inside, firsts}
+use Rattle.f95_nesting.proofs.Again.{Reads, all_both, nothing, one, first, after, to, rewritten, firsts}
 use Rattle.f95_nesting.proofs.Again.{ending_is, ReadsStatement, ReadsStatements, ReadsBranch, ReadsOtherwise, every_read}
 use Rattle.f95_nesting.proofs.Again.{read_action, read_if, read_do, read_branch, read_otherwise, read_if_block}
 
@@ -106,7 +108,7 @@ read_case k xs every c fs before h ks b i s =
       inside = record { on_case = case_on c fs before h ks k xs; on_end = λ l n. refl };
       reads = rewritten c (Some b) (Some (body (f ∷ fs) (inner.Statements xs))) _ _
           (ap (λ (r : Range). r.text h.name seen d) (range-Case k xs)) (λ s.
-          let a = both st (all_stand (statements_text xs d)) s in
+          let a = and_parts st (all_stand (statements_text xs d)) s in
           first c b p (Some (body (f ∷ fs) (inner.Statements []))) _ _
           (i.on_case k.line k.ranges k.name ∙ ap (λ z. only_if z (open_block fs before (block.Case h ks k))) a.0)
           (every_read xs every c (f ∷ fs) [] a.1)) s;
@@ -144,7 +146,7 @@ read_select l n e ks end every c fs done =
     (after c _ (Some p.next) _ t (q ∷ []) p.reads
     (one c p.next q (Some (more fs done (statement.Select l n e ks end)))
     (p.inside.on_end end.line end.name ∙ ap (λ z. Some (more fs done (statement.Select l n e ks z)))
-    (ending_is end (both (is_absent end.word) true a.1).0)))))
+    (ending_is end (and_parts (is_absent end.word) true a.1).0)))))
 
 -- ---- FORALL
 
@@ -222,10 +224,6 @@ ReadsElseWhere x = (c : Context) (fs : List Frame) (before : List Statement) (ws
     InOthers c fs before ws l m main (os ++ x ∷ []) b
     ((elsewhere_other x).text (last_unmasked false (map elsewhere_other os)) (at_where c fs ws))
 
-not_true : (b : Bool) → not b ≡ true → b ≡ false
-not_true false h = refl
-not_true true h = absurd (cc)
-
 not_false : (b : Bool) → b ≡ false → not b ≡ true
 not_false false h = refl
 not_false true h = absurd (cc)
@@ -245,9 +243,9 @@ read_elsewhere k n xs every c fs before ws l m main os b i s =
       };
       reads = rewritten c (Some b) (Some (in_where fs before ws v)) _ _ (ap (λ (o : Other). o.text last d) (other-ElseWhere k n xs))
           (λ s.
-          let a = both (not last) (all_stand (where_statements_text xs d)) s in
+          let a = and_parts (not last) (all_stand (where_statements_text xs d)) s in
           first c b p (Some (in_where fs before ws (where_frame l m (part.Behind main os k n) []))) _ _
-          (i.on_else k n (not_true last a.0))
+          (i.on_else k n (not-true last a.0))
           (every_where xs every c fs before ws l m (part.Behind main os k n) [] a.1)) s;
     }
 

@@ -3,6 +3,7 @@ use Rattle.std.proofs.Common.{◌≡◌, ℕ, suc, Bool, true, false, List, [], 
 use Rattle.std.proofs.Common.{refl, append_assoc, append-nil}
 use Rattle.std.specs.Prelude.{not, ◌&&◌}
 use Rattle.a95_base.specs.declared.source.Line.{Line}
+use Rattle.a95_base.proofs.Tests.{by_test}
 use Rattle.f95_tree.specs.Forms.{Word}
 use Rattle.f95_tree.specs.declared.action.Action.{Action}
 use Rattle.f95_tree.specs.declared.action.Action.TheVariants as act
@@ -55,10 +56,6 @@ use Rattle.f95_nesting.proofs.Opened.{wheres_append}
 abbrev pub Adds : Context → Text → Placed → Option Body → Type 0
 Adds c t p None = Unit {0}
 Adds c t p (Some b) = body_text c b ≡ t ++ p ∷ []
-
-pub by_test : (P : Bool → Type 0) (b : Bool) → (b ≡ true → P true) → (b ≡ false → P false) → P b
-by_test P true holds fails = holds refl
-by_test P false holds fails = fails refl
 
 -- a statement more in the innermost list
 pub more_adds : (c : Context) (fs : List Frame) (before : List Statement) (x : Statement) (last : Text) (p : Placed) →
@@ -239,7 +236,7 @@ in_block_adds c fs before (block.Case h ks k) done l b =
     (in_select_adds c fs before h (ks ++ case_of k done ∷ []) l b)
 in_block_adds c fs before (block.Do h) done l b = in_do_adds c fs before h done l b
 
-blocks_in : (k : Block) (c : Context) → (inside k c).blocks ≡ suc c.blocks
+pub blocks_in : (k : Block) (c : Context) → (inside k c).blocks ≡ suc c.blocks
 blocks_in (block.If h) c = refl
 blocks_in (block.ElseIf h first bs k) c = refl
 blocks_in (block.Else h first bs k n) c = refl

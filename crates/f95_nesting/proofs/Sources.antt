@@ -3,6 +3,7 @@ use Rattle.std.proofs.Common.{◌≡◌, Bool, true, false, List, [], ◌∷◌,
 use Rattle.std.proofs.Common.{append_assoc, append-nil}
 use Rattle.std.specs.Prelude.{◌&&◌, if◌then◌else◌}
 use Rattle.a95_base.specs.declared.source.Line.{Line}
+use Rattle.std.proofs.lemmas.Bool.{and_parts}
 use Rattle.f95_tree.specs.Forms.{Word}
 use Rattle.f95_tree.specs.declared.terminal.UnitWord.{UnitWord}
 use Rattle.f95_tree.specs.declared.terminal.UnitWord.TheVariants as word
@@ -34,7 +35,7 @@ use Rattle.f95_nesting.specs.Nesting.{Lined, forms_of, all_stand}
 use Rattle.f95_nesting.specs.Machine.{body, ending, no_section, no_body, section_move, into, end_main, end_module, more_procedures}
 use Rattle.f95_nesting.specs.Machine.{move, run, start}
 use Rattle.f95_nesting.proofs.Complete.{run_body, lift, main_lifts, procedure_lifts}
-use Rattle.f95_nesting.proofs.Again.{forms_append, all_both, both}
+use Rattle.f95_nesting.proofs.Again.{forms_append, all_both}
 use Rattle.f95_nesting.proofs.Parts.{read_statements}
 
 pub record Leads (s : State) (t : Text) (r : State) : Type 0 where
@@ -193,7 +194,7 @@ lead_end : (s : State) (k : Ending → State) (r : State) (w : UnitWord) (n : Op
     k e ≡ (if may_end w true e.word e.name && filled then r else state.Stops) →
     all_stand (unit_end w true n filled e ∷ []) ≡ true → Leads s (unit_end w true n filled e ∷ []) r
 lead_end s k r w n filled e here named is st =
-    let a = both (may_end w true e.word e.name && filled) true st in let b = both (may_end w true e.word e.name) filled a.0 in
+    let a = and_parts (may_end w true e.word e.name && filled) true st in let b = and_parts (may_end w true e.word e.name) filled a.0 in
     step s (unit_end w true n filled e) r
     (end_as s k w here named e.line e.word e.name b.0 ∙ is ∙ ap (λ z. if z then r else state.Stops) a.0)
 
@@ -218,8 +219,8 @@ lead_subprogram ms h x st =
     let p = x.procedure in let t = statements_text x.body in_procedure in
     let q = unit_end (heading_word p.heading) false (Some (heading_name p.heading)) true x.end in
     let a = all_both (section_text x.section) (t ++ q ∷ []) st in let b = all_both t (q ∷ []) a.1 in
-    let c = both (may_end (heading_word p.heading) false x.end.word x.end.name && true) true b.1 in
-    let d = both (may_end (heading_word p.heading) false x.end.word x.end.name) true c.0 in
+    let c = and_parts (may_end (heading_word p.heading) false x.end.word x.end.name && true) true b.1 in
+    let d = and_parts (may_end (heading_word p.heading) false x.end.word x.end.name) true c.0 in
     follow (state.Goes ms (place.Contains h)) (state.Goes ms (place.Procedure h x.line p no_section no_body)) _
     (outside x.line (of.Unit (unit_of.Procedure p)) ∷ []) (section_text x.section ++ (t ++ q ∷ []))
     (step (state.Goes ms (place.Contains h)) (outside x.line (of.Unit (unit_of.Procedure p))) _ refl)

@@ -3,6 +3,7 @@ use Rattle.std.proofs.Common.{◌≡◌, ℕ, Bool, true, false, List, [], ◌�
 use Rattle.std.proofs.Common.{append_assoc, append-nil}
 use Rattle.std.specs.Prelude.{◌&&◌, if◌then◌else◌}
 use Rattle.a95_base.specs.declared.source.Line.{Line}
+use Rattle.a95_base.proofs.Tests.{by_test, and-true}
 use Rattle.f95_tree.specs.Forms.{Word}
 use Rattle.f95_tree.specs.declared.terminal.UnitWord.{UnitWord}
 use Rattle.f95_tree.specs.declared.terminal.UnitWord.TheVariants as word
@@ -39,7 +40,7 @@ use Rattle.f95_nesting.specs.Machine.{start_move, contains_unit_move, contains_m
 use Rattle.f95_nesting.specs.Machine.{host_name, mark}
 use Rattle.f95_nesting.proofs.Texts.{map_snoc, subprograms_snoc, modules_snoc}
 use Rattle.f95_nesting.proofs.Opened.{body_text, host_text, state_text}
-use Rattle.f95_nesting.proofs.Sound.{by_test, Adds, body_adds}
+use Rattle.f95_nesting.proofs.Sound.{Adds, body_adds}
 
 -- the state has the text with this statement, unless the machine stops
 abbrev pub Extends : Text → Placed → State → Type 0
@@ -350,10 +351,6 @@ more_procedures_text (host.Main o s xs k ps) p =
     ∙ ap (λ z. program_text o ++ z) (sym (append_assoc (section_text s) (x ++ c ∷ subprograms_text ps) (subprogram_text p)))
     ∙ sym (append_assoc (program_text o) (section_text s ++ (x ++ c ∷ subprograms_text ps)) (subprogram_text p))
 
-and_true : (b : Bool) → (b && true) ≡ b
-and_true true = refl
-and_true false = refl
-
 end_procedure_extends : (ms : List Module) (h : Host) (k : Line) (p : Procedure) (s : Section) (e : Ending) (xs : List Statement) →
     Extends (procedure_so_far ms h k p s (statements_text xs in_procedure)) (end_at e (Some (heading_name p.heading)) true)
     (end_procedure ms h k p s e xs)
@@ -365,7 +362,7 @@ end_procedure_extends ms h k p s e xs =
     (if y then state.Goes ms (place.Contains (more_procedures h x)) else state.Stops)) b
     (λ is _. ap (λ z. modules_text ms ++ z) (more_procedures_text h x)
     ∙ procedure_behind ms h k p s t (end_at e n (b && true))
-    ∙ ap (λ y. procedure_so_far ms h k p s t ++ end_at e n y ∷ []) (and_true b ∙ is))
+    ∙ ap (λ y. procedure_so_far ms h k p s t ++ end_at e n y ∷ []) (and-true b ∙ is))
     (λ _ _. tt) refl
 
 procedure_section : (ms : List Module) (h : Host) (k : Line) (p : Procedure) (s : Section) (b : Body) (r : Option Section)

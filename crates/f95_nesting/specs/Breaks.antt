@@ -1,18 +1,13 @@
 -- The rules that are broken along a run of the machine.
-use Rattle.std.specs.Prelude.{ℕ, ◌+◌, Bool, true, false, nat_lt, List, [], ◌∷◌, ◌++◌}
+use Rattle.std.specs.Prelude.{ℕ, ◌+◌, nat_lt, List, [], ◌∷◌, ◌++◌}
 use Rattle.a95_base.specs.declared.breaks.Break.{Break}
-use Rattle.a95_base.specs.Breaks.{broken_at}
+use Rattle.a95_base.specs.Breaks.{broken_at, noted}
 use Rattle.a95_base.specs.Rules.{wrong_nesting, wrong_construct_name, too_many_blocks, no_end}
 use Rattle.f95_nesting.specs.declared.open.State.{State}
 use Rattle.f95_nesting.specs.declared.open.State.TheVariants as state
 use Rattle.f95_nesting.specs.Placed.{Placed}
 use Rattle.f95_nesting.specs.Nesting.{Lined, most_blocks}
 use Rattle.f95_nesting.specs.Machine.{move, run, start, mark_of}
-
--- this one, if the test holds
-abbrev pub noted : Bool → Break → List Break
-noted true b = b ∷ []
-noted false b = []
 
 -- those of a statement in its place
 abbrev pub place_breaks : Placed → List Break

@@ -3,6 +3,8 @@ use Rattle.std.proofs.Common.{◌≡◌, Bool, true, false, ◌&&◌, List, [], 
 use Rattle.std.proofs.Common.{append-nil}
 use Rattle.std.specs.Prelude.{option_map, option_and_then, codes, if◌then◌else◌}
 use Rattle.std.proofs.Math.Bool.{and-true}
+use Rattle.std.proofs.lemmas.Bool.{and_parts, and_from}
+use Rattle.a95_base.proofs.Tests.{by_test}
 use Rattle.f95_tree.specs.declared.expression.Expression.{Expression}
 use Rattle.f95_tree.specs.declared.expression.Expression.TheVariants as e
 use Rattle.f95_tree.specs.declared.expression.Reference.TheVariants as r
@@ -29,7 +31,6 @@ use Rattle.f95_expressions.specs.declared.pending.Spread.{Spread}
 use Rattle.f95_expressions.specs.declared.pending.Spread.TheVariants as spread
 use Rattle.f95_expressions.specs.Fields.{fields_text, well_field, well_fields}
 use Rattle.f95_expressions.specs.Machine.{lone, whole, collected, expression_of, field, first_in, bracket, row}
-use Rattle.f95_expressions.proofs.Lists.{both, joined, by_test}
 use Rattle.f95_expressions.proofs.Fields.{expression_field}
 use Rattle.f95_expressions.proofs.Read.{mapped, chained, lone_sound, whole_sound, expression_sound, list_text, onto_well}
 use Rattle.f95_expressions.proofs.Found.{row_again, row_sound}
@@ -160,15 +161,15 @@ counter_well : (n : Word) (from to : Expression) (step : Option Expression) →
     (well from && (well to && maybe_well_expression step)) ≡ true →
     well_fields (counter_fields n from to step) ≡ true
 counter_well n from to None h =
-    let first = both (well from) (well to && true) h in
-    let last = both (well to) true first.1 in
-    joined (well_field (counter n from)) (well_field (expression_field to)) (argument_well (argument (Some n) from) ∙ first.0)
+    let first = and_parts (well from) (well to && true) h in
+    let last = and_parts (well to) true first.1 in
+    and_from (well_field (counter n from)) (well_field (expression_field to)) (argument_well (argument (Some n) from) ∙ first.0)
     (argument_well (argument None to) ∙ last.0)
 counter_well n from to (Some step) h =
-    let first = both (well from) (well to && well step) h in
-    let last = both (well to) (well step) first.1 in
-    joined (well_field (counter n from) && well_field (expression_field to)) (well_field (expression_field step))
-    (joined (well_field (counter n from)) (well_field (expression_field to)) (argument_well (argument (Some n) from) ∙ first.0)
+    let first = and_parts (well from) (well to && well step) h in
+    let last = and_parts (well to) (well step) first.1 in
+    and_from (well_field (counter n from) && well_field (expression_field to)) (well_field (expression_field step))
+    (and_from (well_field (counter n from)) (well_field (expression_field to)) (argument_well (argument (Some n) from) ∙ first.0)
     (argument_well (argument None to) ∙ last.0))
     (argument_well (argument None step) ∙ last.1)
 

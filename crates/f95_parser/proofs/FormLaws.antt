@@ -1,7 +1,9 @@
 -- All forms: what is read is spelled as the terminals and well formed, and what is well formed is read from what spells it.
-use Rattle.std.proofs.Common.{◌≡◌, ℕ, ◌≤◌, true, false, ◌&&◌, List, [], ◌∷◌, ◌++◌, map, Option, Some, None, sym, ◌∙◌, ap, subst}
+use Rattle.std.proofs.Common.{◌≡◌, ℕ, ◌≤◌, true, false, List, [], ◌∷◌, ◌++◌, map, Option, Some, None, sym, ◌∙◌, ap, subst}
 use Rattle.std.proofs.Common.{refl, append-nil}
 use Rattle.std.specs.Prelude.{option_map, option_and_then, codes, if◌then◌else◌}
+use Rattle.std.proofs.lemmas.Bool.{and_parts, and_from}
+use Rattle.a95_base.proofs.Tests.{by_test}
 use Rattle.f95_lexer.specs.declared.token.Token.{Token}
 use Rattle.f95_tree.specs.declared.expression.Expression.{Expression}
 use Rattle.f95_tree.specs.declared.expression.Reference.{Reference}
@@ -32,7 +34,6 @@ use Rattle.f95_tree.specs.Forms.{block_text, prefixes_text, heading_text, spell_
 use Rattle.f95_tree.specs.WellFormed.{well_assignment, well_header, well_action, well_block, well_unit, well_procedure, well_form}
 use Rattle.f95_tree.proofs.Nodes.{reference-Whole, reference-Items, reference-Substring}
 use Rattle.f95_tree.proofs.Induction.{reference_cases}
-use Rattle.f95_expressions.proofs.Lists.{both, joined, by_test}
 use Rattle.f95_expressions.proofs.Read.{mapped, chained}
 use Rattle.f95_parts.specs.Views.{is_nil, behind, behind_keyword, name_at_end}
 use Rattle.f95_parts.proofs.ViewLaws.{nil, keyword_sound, more_sound, name_end_sound, name_end_again}
@@ -92,7 +93,7 @@ if_by_sound x ts f w h = chosen (is_then ts) (Some (of.Block (block_of.If None x
     (λ _ h. mapped (of.If x) (action_of ts) f h (λ a ha is.
     let c = action_sound ts a ha in
     is_as spell_form well_form (block_word block.If ∷ (condition_text x ++ ts)) (of.If x a) f is
-    (ap (λ t. block_word block.If ∷ (condition_text x ++ t)) c.spelled) (joined (well x) (well_action a) w c.kept)))
+    (ap (λ t. block_word block.If ∷ (condition_text x ++ t)) c.spelled) (and_from (well x) (well_action a) w c.kept)))
 
 where_by_sound : (x : Expression) (ts : Text) (f : Form) → well x ≡ true → where_by (x, ts) ≡ Some f →
     IsForm (block_word block.Where ∷ (condition_text x ++ ts)) f
@@ -105,7 +106,7 @@ where_by_sound x ts f w h = chosen (is_nil ts) (Some (of.Block (block_of.Where x
     (λ _ h. mapped (λ a. of.Action (act.Where x a)) (assigned ts) f h (λ a ha is.
     let c = assigned_sound ts a ha in
     is_as spell_form well_form (block_word block.Where ∷ (condition_text x ++ ts)) (of.Action (act.Where x a)) f is
-    (ap (λ t. block_word block.Where ∷ (condition_text x ++ t)) c.spelled) (joined (well x) (well_assignment a) w c.kept)))
+    (ap (λ t. block_word block.Where ∷ (condition_text x ++ t)) c.spelled) (and_from (well x) (well_assignment a) w c.kept)))
 
 forall_by_sound : (x : Header) (ts : Text) (f : Form) → well_header x ≡ true → forall_by (x, ts) ≡ Some f →
     IsForm (block_word block.Forall ∷ (header_text x ++ ts)) f
@@ -119,7 +120,7 @@ forall_by_sound x ts f w h = chosen (is_nil ts) (Some (of.Block (block_of.Forall
     let c = assigned_sound ts a ha in
     is_as spell_form well_form (block_word block.Forall ∷ (header_text x ++ ts)) (of.Action (act.Forall x a)) f is
     (ap (λ t. block_word block.Forall ∷ (header_text x ++ t)) c.spelled)
-    (joined (well_header x) (well_assignment a) w c.kept)))
+    (and_from (well_header x) (well_assignment a) w c.kept)))
 
 block_form_sound : (w : BlockWord) (ts : Text) (f : Form) → block_form w ts ≡ Some f → IsForm (block_word w ∷ ts) f
 block_form_sound block.If ts f h = chained if_by (conditioned ts) f h (λ p hp h2.
@@ -257,8 +258,8 @@ forall_reads x a w k =
 
 action_reads : (a : Action) → well_action a ≡ true → form_of (action_text a) ≡ Some (of.Action a)
 action_reads (act.Assignment a) w = assignment_reads a w
-action_reads (act.Where x a) w = let ws = both (well x) (well_assignment a) w in where_reads x a ws.0 ws.1
-action_reads (act.Forall x a) w = let ws = both (well_header x) (well_assignment a) w in forall_reads x a ws.0 ws.1
+action_reads (act.Where x a) w = let ws = and_parts (well x) (well_assignment a) w in where_reads x a ws.0 ws.1
+action_reads (act.Forall x a) w = let ws = and_parts (well_header x) (well_assignment a) w in forall_reads x a ws.0 ws.1
 action_reads (act.Call n arguments) w = ap (option_map of.Action) (action_again (act.Call n arguments) w)
 action_reads (act.Allocate objects) w = ap (option_map of.Action) (action_again (act.Allocate objects) w)
 action_reads (act.Deallocate ns) w = ap (option_map of.Action) (action_again (act.Deallocate ns) w)
@@ -324,7 +325,7 @@ form_again (of.Unit u) w = unit_reads u w
 form_again (of.Declaration d) w = ap form_of (declaration_first d) ∙ declaration_typed d w
 form_again (of.Block b) w = block_reads b w
 form_again (of.Action a) w = action_reads a w
-form_again (of.If x a) w = let ws = both (well x) (well_action a) w in if_reads x a ws.0 ws.1
+form_again (of.If x a) w = let ws = and_parts (well x) (well_action a) w in if_reads x a ws.0 ws.1
 
 -- ---- tokens
 

@@ -8,7 +8,8 @@ ghost use Rattle.f95_parser.specs.Reading.{counted_in, counted, while_of, contro
 ghost use Rattle.f95_parser.specs.Reading.{case_in, case_of, else_if, else_where, else_of, end_block};
 
 use a95_base::{SharedBytes, Stack};
-use f95_expressions::{Closed, Field, Spread, boxed, bracket, expression_of, row, whole};
+use f95_expressions::{Field, Spread, boxed, expression_of, whole};
+use f95_fields::{Closed, bracket, row};
 use f95_parts::{behind, behind_keyword, behind_word, collected, is_nil, spread_expression};
 use f95_statements::{Condition, conditioned, name_at_end};
 use f95_tree::{BlockForm, BlockWord, Control, Expression, Keyword, Punctuation, Terminal};

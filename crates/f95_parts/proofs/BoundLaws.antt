@@ -1,34 +1,32 @@
 -- Dimensions, bounds and what has them: spelled as the fields that they are taken from, and taken again.
-use Rattle.std.proofs.Common.{◌≡◌, ℕ, Bool, true, false, ◌&&◌, List, [], ◌∷◌, ◌++◌, map, Option, Some, None, sym, ◌∙◌, ap, refl}
+use Rattle.std.proofs.Common.{◌≡◌, Bool, true, ◌&&◌, List, [], ◌∷◌, ◌++◌, map, Option, Some, None, sym, ◌∙◌, ap, refl}
 use Rattle.std.proofs.Common.{append_assoc, append-nil}
-use Rattle.std.specs.Prelude.{option_map, option_and_then, if◌then◌else◌}
+use Rattle.std.specs.Prelude.{option_map, option_and_then}
 use Rattle.std.proofs.Math.Bool.{and-true}
 use Rattle.f95_tree.specs.declared.expression.Expression.{Expression}
 use Rattle.f95_tree.specs.declared.expression.Expression.TheVariants as e
-use Rattle.f95_tree.specs.declared.expression.Reference.{Reference, out-Reference}
+use Rattle.f95_tree.specs.declared.expression.Reference.{Reference}
 use Rattle.f95_tree.specs.declared.expression.Reference.TheVariants as r
 use Rattle.f95_tree.specs.declared.expression.Item.{Item}
 use Rattle.f95_tree.specs.declared.expression.Item.TheVariants as i
 use Rattle.f95_tree.specs.declared.expression.Value.TheVariants as v
 use Rattle.f95_tree.specs.declared.declaration.Dim.{Dim}
 use Rattle.f95_tree.specs.declared.declaration.Dim.TheVariants as dim
-use Rattle.f95_tree.specs.declared.declaration.Entity.{Entity}
 use Rattle.f95_tree.specs.declared.action.Allocation.{Allocation}
 use Rattle.f95_tree.specs.declared.action.Bound.{Bound}
 use Rattle.f95_tree.specs.declared.action.Bound.TheVariants as bound
 use Rattle.f95_tree.specs.declared.terminal.Terminal.TheVariants as terminal
 use Rattle.f95_tree.specs.declared.terminal.Punctuation.TheVariants as mark
-use Rattle.f95_tree.specs.Spelling.{Text, punctuated, behind_commas, commas, in_brackets, expression, item, reference}
-use Rattle.f95_tree.specs.Grades.{all, some, well, well_item, well_reference}
-use Rattle.f95_tree.specs.Forms.{Word, dim_text, dims_text, maybe_dims, entity_text, bound_text, allocation_text}
-use Rattle.f95_tree.specs.WellFormed.{well_dim, well_dims, well_bound, well_allocation}
-use Rattle.f95_tree.proofs.Nodes.{item-Plain, item-Triplet, well_item-Plain, well_item-Triplet, reference-Whole, reference-Items}
-use Rattle.f95_tree.proofs.Nodes.{well_reference-Whole, well_reference-Items}
+use Rattle.f95_tree.specs.Spelling.{Text, punctuated, commas, in_brackets, expression, item}
+use Rattle.f95_tree.specs.Grades.{all, some, well, well_item}
+use Rattle.f95_tree.specs.Forms.{dim_text, dims_text, bound_text, allocation_text}
+use Rattle.f95_tree.specs.WellFormed.{well_dim, well_bound}
+use Rattle.f95_tree.proofs.Nodes.{item-Plain, item-Triplet, well_item-Plain, well_item-Triplet, reference-Items}
+use Rattle.f95_tree.proofs.Nodes.{well_reference-Items}
 use Rattle.f95_tree.proofs.Views.{seen-Plain, seen-Keyword, seen-Triplet, seen-Whole, seen-Items, seen-Substring}
 use Rattle.f95_tree.proofs.Induction.{item_cases, reference_cases}
 use Rattle.f95_expressions.specs.declared.pending.Field.{Field}
 use Rattle.f95_expressions.specs.Fields.{field_text, well_field}
-use Rattle.f95_expressions.proofs.Lists.{both, joined}
 use Rattle.f95_expressions.proofs.Read.{mapped, chained}
 use Rattle.f95_parts.specs.Parts.{picked, filled, dim_of, dim_in, dim_of_bounds, dims_of, bound_of, bound_in, bound_of_bounds}
 use Rattle.f95_parts.specs.Parts.{bounds_of, reference_of, allocation, allocation_in, allocation_named, allocation_of}

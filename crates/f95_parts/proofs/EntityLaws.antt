@@ -1,8 +1,9 @@
 -- Entities: spelled as the fields that they are taken from, and taken again.
-use Rattle.std.proofs.Common.{◌≡◌, ℕ, Bool, true, false, ◌&&◌, List, [], ◌∷◌, ◌++◌, map, Option, Some, None, sym, ◌∙◌, ap, refl}
+use Rattle.std.proofs.Common.{◌≡◌, Bool, true, ◌&&◌, List, [], ◌∷◌, ◌++◌, map, Option, Some, None, sym, ◌∙◌, ap, refl}
 use Rattle.std.proofs.Common.{append_assoc, append-nil}
 use Rattle.std.specs.Prelude.{option_map, option_and_then}
 use Rattle.std.proofs.Math.Bool.{and-true}
+use Rattle.std.proofs.lemmas.Bool.{and_parts, and_from}
 use Rattle.f95_tree.specs.declared.expression.Expression.{Expression}
 use Rattle.f95_tree.specs.declared.expression.Expression.TheVariants as e
 use Rattle.f95_tree.specs.declared.expression.Reference.{Reference}
@@ -25,7 +26,6 @@ use Rattle.f95_expressions.specs.declared.pending.Spread.{Spread}
 use Rattle.f95_expressions.specs.declared.pending.Spread.TheVariants as spread
 use Rattle.f95_expressions.specs.Fields.{field_text, well_field}
 use Rattle.f95_expressions.specs.Machine.{field}
-use Rattle.f95_expressions.proofs.Lists.{both, joined}
 use Rattle.f95_expressions.proofs.Read.{mapped, chained}
 use Rattle.f95_parts.specs.Parts.{as_reference, spread_expression, dims_of, entity, entity_in, entity_named, entity_from, entity_of}
 use Rattle.f95_parts.proofs.PartLaws.{lone_again, as_reference_sound, as_reference_again, reference_field, reference_text}
@@ -54,11 +54,11 @@ all_dims (Some ds) = all (map well_dim ds)
 
 dims_joined : (ds : Option (List Dim)) → some_dims ds ≡ true → all_dims ds ≡ true → maybe_well_dims ds ≡ true
 dims_joined None h q = refl
-dims_joined (Some ds) h q = joined (some ds) (all (map well_dim ds)) h q
+dims_joined (Some ds) h q = and_from (some ds) (all (map well_dim ds)) h q
 
 dims_parted : (ds : Option (List Dim)) → maybe_well_dims ds ≡ true → (some_dims ds ≡ true) × (all_dims ds ≡ true)
 dims_parted None h = (refl, refl)
-dims_parted (Some ds) h = both (some ds) (all (map well_dim ds)) h
+dims_parted (Some ds) h = and_parts (some ds) (all (map well_dim ds)) h
 
 abbrev of_entity : Entity → Reference
 of_entity a = entity_reference a.name a.dims
@@ -151,11 +151,11 @@ well_by (Some i) n ds =
 pub entity_meets : (f : Field) (a : Entity) → entity_of f ≡ Some a → well_field f ≡ true → well_entity a ≡ true
 entity_meets f a h q =
     let s = entity_sound f a h in
-    let ws = both (all_dims a.dims) (maybe_well_expression a.initial)
+    let ws = and_parts (all_dims a.dims) (maybe_well_expression a.initial)
     (sym (well_by a.initial a.name a.dims) ∙ sym (ap well_field s.0) ∙ q) in
-    joined (maybe_well_dims a.dims) (maybe_well_expression a.initial) (dims_joined a.dims s.1 ws.0) ws.1
+    and_from (maybe_well_dims a.dims) (maybe_well_expression a.initial) (dims_joined a.dims s.1 ws.0) ws.1
 
 pub entity_kept : (a : Entity) → well_entity a ≡ true → well_field (entity_field a) ≡ true
 entity_kept a h =
-    let ws = both (maybe_well_dims a.dims) (maybe_well_expression a.initial) h in
-    well_by a.initial a.name a.dims ∙ joined (all_dims a.dims) (maybe_well_expression a.initial) (dims_parted a.dims ws.0).1 ws.1
+    let ws = and_parts (maybe_well_dims a.dims) (maybe_well_expression a.initial) h in
+    well_by a.initial a.name a.dims ∙ and_from (all_dims a.dims) (maybe_well_expression a.initial) (dims_parted a.dims ws.0).1 ws.1

@@ -1,24 +1,21 @@
 -- Entities, arguments, ranges and indices: spelled as the fields that they are taken from, and taken again.
-use Rattle.std.proofs.Common.{◌≡◌, ℕ, Bool, true, false, ◌&&◌, List, [], ◌∷◌, ◌++◌, map, Option, Some, None, sym, ◌∙◌, ap, refl}
-use Rattle.std.proofs.Common.{append_assoc, append-nil}
-use Rattle.std.specs.Prelude.{option_map, option_and_then, if◌then◌else◌}
+use Rattle.std.proofs.Common.{◌≡◌, true, ◌&&◌, [], ◌∷◌, ◌++◌, Option, Some, None, ◌∙◌, ap, refl}
+use Rattle.std.proofs.Common.{append-nil}
+use Rattle.std.specs.Prelude.{option_map, option_and_then}
 use Rattle.std.proofs.Math.Bool.{and-true}
 use Rattle.f95_tree.specs.declared.expression.Expression.{Expression}
 use Rattle.f95_tree.specs.declared.expression.Expression.TheVariants as e
 use Rattle.f95_tree.specs.declared.expression.Reference.{Reference}
 use Rattle.f95_tree.specs.declared.expression.Reference.TheVariants as r
-use Rattle.f95_tree.specs.declared.expression.Item.{Item}
 use Rattle.f95_tree.specs.declared.expression.Value.TheVariants as v
-use Rattle.f95_tree.specs.declared.declaration.Dim.{Dim}
-use Rattle.f95_tree.specs.declared.declaration.Entity.{Entity}
 use Rattle.f95_tree.specs.declared.action.Argument.{Argument}
 use Rattle.f95_tree.specs.declared.action.Index.{Index}
 use Rattle.f95_tree.specs.declared.form.CaseRange.{CaseRange}
 use Rattle.f95_tree.specs.declared.form.CaseRange.TheVariants as range
 use Rattle.f95_tree.specs.declared.terminal.Terminal.TheVariants as terminal
 use Rattle.f95_tree.specs.declared.terminal.Punctuation.TheVariants as mark
-use Rattle.f95_tree.specs.Spelling.{Text, punctuated, commas, in_brackets, maybe_behind, expression, item, reference, value}
-use Rattle.f95_tree.specs.Grades.{Grade, all, some, maybe_well, grade, well, well_item, well_reference, well_value}
+use Rattle.f95_tree.specs.Spelling.{punctuated, maybe_behind, expression, value}
+use Rattle.f95_tree.specs.Grades.{Grade, maybe_well, grade, well, well_value}
 use Rattle.f95_tree.specs.Forms.{Word, argument_text, range_text, index_text}
 use Rattle.f95_tree.specs.WellFormed.{well_range, well_index}
 use Rattle.f95_tree.proofs.Nodes.{expression-Reference, reference-Whole, value-One, well_value-One, grade-Reference}
@@ -28,7 +25,6 @@ use Rattle.f95_expressions.specs.declared.pending.Spread.{Spread}
 use Rattle.f95_expressions.specs.declared.pending.Spread.TheVariants as spread
 use Rattle.f95_expressions.specs.Fields.{field_text, well_field}
 use Rattle.f95_expressions.specs.Machine.{lone, whole, field}
-use Rattle.f95_expressions.proofs.Lists.{both, joined}
 use Rattle.f95_expressions.proofs.Read.{mapped, chained, lone_sound, whole_sound}
 use Rattle.f95_parts.specs.Parts.{spread_expression, keyword_of, argument, argument_of, range_from, range_of, range_of_bounds}
 use Rattle.f95_parts.specs.Parts.{index, index_of_bounds, index_from, index_of}

@@ -1,19 +1,21 @@
 -- Headers of FORALL: spelled as the fields that they are taken from, and taken again.
-use Rattle.std.proofs.Common.{◌≡◌, Bool, true, false, ◌&&◌, List, [], ◌∷◌, ◌++◌, map, Option, Some, None, sym, ◌∙◌, ap, refl}
+use Rattle.std.proofs.Common.{◌≡◌, true, ◌&&◌, List, [], ◌∷◌, ◌++◌, map, Option, Some, None, sym, ◌∙◌, ap, refl}
 use Rattle.std.proofs.Common.{append_assoc, append-nil}
 use Rattle.std.specs.Prelude.{option_map, option_and_then, if◌then◌else◌}
+use Rattle.std.proofs.lemmas.Bool.{and_parts, and_from}
+use Rattle.a95_base.proofs.Tests.{by_test}
 use Rattle.f95_tree.specs.declared.expression.Expression.{Expression}
 use Rattle.f95_tree.specs.declared.action.Header.{Header}
 use Rattle.f95_tree.specs.declared.action.Index.{Index}
 use Rattle.f95_tree.specs.declared.terminal.Punctuation.TheVariants as mark
 use Rattle.f95_tree.specs.Spelling.{Text, punctuated, commas, maybe_behind, expression}
-use Rattle.f95_tree.specs.Grades.{all, some, well}
+use Rattle.f95_tree.specs.Grades.{all, some}
 use Rattle.f95_tree.specs.Forms.{maybe_expression, index_text}
 use Rattle.f95_tree.specs.WellFormed.{maybe_well_expression, well_index, well_header}
 use Rattle.f95_expressions.specs.declared.pending.Field.{Field}
 use Rattle.f95_expressions.specs.Fields.{field_text, done_text, fields_text, well_field, well_fields}
 use Rattle.f95_expressions.specs.Machine.{collected, expression_of, has_left}
-use Rattle.f95_expressions.proofs.Lists.{both, joined, by_test, onto}
+use Rattle.f95_expressions.proofs.Lists.{onto}
 use Rattle.f95_expressions.proofs.Fields.{expression_field}
 use Rattle.f95_expressions.proofs.Read.{mapped, chained, expression_sound}
 use Rattle.f95_parts.specs.Parts.{index_of, header, indices_of, header_of}
@@ -62,8 +64,8 @@ with_mask h mask e = ap (λ m. commas (map index_text h.indices) ++ maybe_behind
 well_parts : (h : Header) → some h.indices ≡ true → all (map well_index h.indices) ≡ true → maybe_well_expression h.mask ≡ true →
     well_header h ≡ true
 well_parts h a b c =
-    joined (some h.indices) (all (map well_index h.indices) && maybe_well_expression h.mask) a
-    (joined (all (map well_index h.indices)) (maybe_well_expression h.mask) b c)
+    and_from (some h.indices) (all (map well_index h.indices) && maybe_well_expression h.mask) a
+    (and_from (all (map well_index h.indices)) (maybe_well_expression h.mask) b c)
 
 unmasked_sound : (fs : List Field) (h : Header) → indices_of None fs ≡ Some h → well_fields fs ≡ true → HeaderIs fs h
 unmasked_sound fs h q w =
@@ -77,7 +79,7 @@ masked_sound : (f : Field) (fs : List Field) (x : Expression) (h : Header) → f
     indices_of (Some x) fs ≡ Some h → well_fields (f ∷ fs) ≡ true → HeaderIs (f ∷ fs) h
 masked_sound f fs x h is q w =
     let s = indices_sound (Some x) fs h q in
-    let ws = both (well_fields fs) (well_field f) w in record {
+    let ws = and_parts (well_fields fs) (well_field f) w in record {
       spelled = with_mask h (Some x) s.1.0
           ∙ ap (λ t. t ++ punctuated mark.Comma (expression x)) (collected_text indices fs h.indices s.0)
           ∙ sym (behind_fields fs f (expression x) s.1.1 (ap field_text is ∙ expression_text x));
@@ -132,7 +134,7 @@ spelled_by (Some x) i is =
 well_by : (mask : Option Expression) (is : List Index) → all (map well_index is) ≡ true → maybe_well_expression mask ≡ true →
     well_fields (masked mask (onto (map index_field is) [])) ≡ true
 well_by None is w q = fields_well indices is w
-well_by (Some x) is w q = joined (well_fields (onto (map index_field is) [])) (well_field (expression_field x))
+well_by (Some x) is w q = and_from (well_fields (onto (map index_field is) [])) (well_field (expression_field x))
     (fields_well indices is w) (expression_well x ∙ q)
 
 some_by : (mask : Option Expression) (i : Index) (is : List Index) → some (masked mask (onto (map index_field (i ∷ is)) [])) ≡ true
@@ -148,7 +150,7 @@ pub record HeaderAgain (h : Header) : Type 0 where
 header_by : (mask : Option Expression) (is : List Index) → well_header (header mask is) ≡ true → HeaderAgain (header mask is)
 header_by mask [] w = absurd (cc)
 header_by mask (i ∷ is) w =
-    let ws = both (all (map well_index (i ∷ is))) (maybe_well_expression mask) w in record {
+    let ws = and_parts (all (map well_index (i ∷ is))) (maybe_well_expression mask) w in record {
       again = again_by mask i is ws.0;
       spelled = spelled_by mask i is;
       kept = well_by mask (i ∷ is) ws.0 ws.1;

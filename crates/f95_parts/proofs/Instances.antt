@@ -1,14 +1,13 @@
 -- Each kind of part by its fields, for the laws of lists.
-use Rattle.std.proofs.Common.{◌≡◌, Bool, true, ◌&&◌, List, [], ◌∷◌, map, sym, ◌∙◌, ap, refl}
+use Rattle.std.proofs.Common.{◌≡◌, Bool, true, List, [], ◌∷◌, map, sym, ◌∙◌, ap, refl}
+use Rattle.std.proofs.lemmas.Bool.{and_parts, and_from}
 use Rattle.f95_tree.specs.declared.action.Argument.{Argument}
-use Rattle.f95_tree.specs.declared.action.Allocation.{Allocation}
 use Rattle.f95_tree.specs.Spelling.{expression, reference}
 use Rattle.f95_tree.specs.Grades.{all, some, well, well_reference}
 use Rattle.f95_tree.specs.Forms.{Word, named, argument_text, allocation_text, entity_text, range_text, index_text}
 use Rattle.f95_tree.specs.WellFormed.{well_bound, well_allocation, well_entity, well_range, well_index}
 use Rattle.f95_expressions.specs.Machine.{expression_of}
 use Rattle.f95_expressions.specs.Fields.{well_field}
-use Rattle.f95_expressions.proofs.Lists.{both, joined}
 use Rattle.f95_expressions.proofs.Fields.{expression_field}
 use Rattle.f95_expressions.proofs.Read.{expression_sound}
 use Rattle.f95_parts.specs.Parts.{reference_of, name_of, argument_of, allocation_of, entity_of, range_of, index_of}
@@ -56,10 +55,10 @@ pub allocations : Parts allocation_of bounds.allocation_field allocation_text we
 allocations = record {
   sound = λ f a h. (bounds.allocation_sound f a h).0;
   meets = λ f a h q. let s = bounds.allocation_sound f a h in
-      joined (some a.bounds) (all (map well_bound a.bounds)) s.1 (sym (bounds.allocation_well a) ∙ sym (ap well_field s.0) ∙ q);
-  again = λ a h. bounds.allocation_again a (both (some a.bounds) (all (map well_bound a.bounds)) h).0;
+      and_from (some a.bounds) (all (map well_bound a.bounds)) s.1 (sym (bounds.allocation_well a) ∙ sym (ap well_field s.0) ∙ q);
+  again = λ a h. bounds.allocation_again a (and_parts (some a.bounds) (all (map well_bound a.bounds)) h).0;
   spelled = bounds.allocation_spelled;
-  kept = λ a h. bounds.allocation_well a ∙ (both (some a.bounds) (all (map well_bound a.bounds)) h).1;
+  kept = λ a h. bounds.allocation_well a ∙ (and_parts (some a.bounds) (all (map well_bound a.bounds)) h).1;
   never = refl;
 }
 
@@ -67,7 +66,7 @@ pub entity_parts : Parts entity_of entities.entity_field entity_text well_entity
 entity_parts = record {
   sound = λ f a h. (entities.entity_sound f a h).0;
   meets = entities.entity_meets;
-  again = λ a h. entities.entity_again a (both _ _ h).0;
+  again = λ a h. entities.entity_again a (and_parts _ _ h).0;
   spelled = entities.entity_spelled;
   kept = entities.entity_kept;
   never = refl;

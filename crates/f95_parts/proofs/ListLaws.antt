@@ -1,18 +1,22 @@
 -- Lists of what fields are taken for: what is read in a bracket or in a row is spelled as the terminals and well formed, and
 -- what is spelled so is read.
-use Rattle.std.proofs.Common.{◌≡◌, ℕ, Bool, true, false, ◌&&◌, List, [], ◌∷◌, ◌++◌, map, Option, Some, None, sym, ◌∙◌, ap, subst}
-use Rattle.std.proofs.Common.{refl, append_assoc, append-nil}
-use Rattle.std.specs.Prelude.{option_map, option_and_then, if◌then◌else◌}
+use Rattle.std.proofs.Common.{◌≡◌, Bool, true, false, ◌&&◌, List, [], ◌∷◌, ◌++◌, map, Option, Some, None, sym, ◌∙◌, ap}
+use Rattle.std.proofs.Common.{refl, append-nil}
+use Rattle.std.specs.Prelude.{option_and_then, if◌then◌else◌}
+use Rattle.std.proofs.lemmas.Bool.{and_parts, and_from}
+use Rattle.a95_base.proofs.Tests.{by_test}
+use Rattle.f95_expressions.proofs.Made.{within_text, within_well}
+use Rattle.f95_expressions.proofs.Again.{within_long}
 use Rattle.f95_tree.specs.declared.expression.Expression.{Expression}
 use Rattle.f95_tree.specs.declared.terminal.Punctuation.TheVariants as mark
-use Rattle.f95_tree.specs.Spelling.{Text, punctuated, behind_commas, commas}
+use Rattle.f95_tree.specs.Spelling.{Text, punctuated, commas}
 use Rattle.f95_tree.specs.Grades.{all, some}
 use Rattle.f95_expressions.specs.declared.pending.Field.{Field}
 use Rattle.f95_expressions.specs.declared.pending.Spread.{Spread}
 use Rattle.f95_expressions.specs.declared.pending.Spread.TheVariants as spread
-use Rattle.f95_expressions.specs.Fields.{field_text, done_text, fields_text, well_field, well_fields}
+use Rattle.f95_expressions.specs.Fields.{field_text, fields_text, well_field, well_fields}
 use Rattle.f95_expressions.specs.Machine.{field, collected, within, is_nothing, is_nothing_from, bracket, row}
-use Rattle.f95_expressions.proofs.Lists.{both, joined, by_test, onto}
+use Rattle.f95_expressions.proofs.Lists.{onto}
 use Rattle.f95_expressions.proofs.Read.{chained, all_collected, list_text}
 use Rattle.f95_expressions.proofs.Found.{bracket_again, bracket_sound, row_again, row_sound}
 
@@ -79,24 +83,9 @@ nothing_is None (spread.One w) h = absurd (cc)
 nothing_is None (spread.Triplet a b c) h = absurd (cc)
 nothing_is (Some x) s h = absurd (cc)
 
-within_text : (fs : List Field) → fields_text (within fs) ≡ fields_text fs
-within_text [] = refl
-within_text (f ∷ []) = by_test (λ b. fields_text (if b then [] else f ∷ []) ≡ field_text f) (is_nothing f)
-    (λ h. sym (ap field_text (nothing_is f.left f.spread h))) (λ h. refl)
-within_text (f ∷ g ∷ fs) = refl
-
-within_well : (fs : List Field) → well_fields fs ≡ true → well_fields (within fs) ≡ true
-within_well [] h = h
-within_well (f ∷ []) h = by_test (λ b. well_fields (if b then [] else f ∷ []) ≡ true) (is_nothing f) (λ _. refl) (λ _. h)
-within_well (f ∷ g ∷ fs) h = h
-
 some_onto : (fs d : List Field) → some d ≡ true → some (onto fs d) ≡ true
 some_onto [] d h = h
 some_onto (f ∷ fs) d h = some_onto fs (f ∷ d) refl
-
-within_long : (fs : List Field) (f g : Field) (d : List Field) → within (onto fs (f ∷ g ∷ d)) ≡ onto fs (f ∷ g ∷ d)
-within_long [] f g d = refl
-within_long (h ∷ fs) f g d = within_long fs h f (g ∷ d)
 
 -- ---- lists
 
@@ -120,8 +109,8 @@ module _ {A : Type 0} {make : Field → Option A} {g : A → Field} {spell : A �
       well_all done ≡ true → well_all xs ≡ true
   collected_meets done xs [] h q d = let is : done ≡ xs = cc in sym (ap well_all is) ∙ d
   collected_meets done xs (f ∷ fs) h q d = chained (λ a. collected make (a ∷ done) fs) (make f) xs h (λ a ha hs.
-      let ws = both (well_fields fs) (well_field f) q in
-      collected_meets (a ∷ done) xs fs hs ws.0 (joined (w a) (well_all done) (parts.meets f a ha ws.1) d))
+      let ws = and_parts (well_fields fs) (well_field f) q in
+      collected_meets (a ∷ done) xs fs hs ws.0 (and_from (w a) (well_all done) (parts.meets f a ha ws.1) d))
 
   pub collected_well : (fs : List Field) (xs : List A) → collected make [] fs ≡ Some xs → well_fields fs ≡ true → well_all xs ≡ true
   collected_well fs xs h q = collected_meets [] xs fs h q refl
@@ -134,7 +123,7 @@ module _ {A : Type 0} {make : Field → Option A} {g : A → Field} {spell : A �
       collected make done (onto (map g xs) d) ≡ collected make (xs ++ done) d
   collected_onto [] done d h = refl
   collected_onto (x ∷ xs) done d h =
-      let ws = both (w x) (well_all xs) h in
+      let ws = and_parts (w x) (well_all xs) h in
       collected_onto xs done (g x ∷ d) ws.1 ∙ ap (option_and_then (λ c. collected make (c ∷ (xs ++ done)) d)) (parts.again x ws.0)
 
   pub collected_fields : (xs : List A) → well_all xs ≡ true → collected make [] (fields xs) ≡ Some xs
@@ -143,8 +132,8 @@ module _ {A : Type 0} {make : Field → Option A} {g : A → Field} {spell : A �
   wells_onto : (xs : List A) (d : List Field) → well_all xs ≡ true → well_fields d ≡ true → well_fields (onto (map g xs) d) ≡ true
   wells_onto [] d h q = q
   wells_onto (x ∷ xs) d h q =
-      let ws = both (w x) (well_all xs) h in
-      wells_onto xs (g x ∷ d) ws.1 (joined (well_fields d) (well_field (g x)) q (parts.kept x ws.0))
+      let ws = and_parts (w x) (well_all xs) h in
+      wells_onto xs (g x ∷ d) ws.1 (and_from (well_fields d) (well_field (g x)) q (parts.kept x ws.0))
 
   pub fields_well : (xs : List A) → well_all xs ≡ true → well_fields (fields xs) ≡ true
   fields_well xs h = wells_onto xs [] h refl
@@ -168,7 +157,7 @@ module _ {A : Type 0} {make : Field → Option A} {g : A → Field} {spell : A �
   row_list_sound ts xs h = chained (collected make []) (row ts) xs h (λ fs hf hx.
       let s = row_sound ts fs hf in record {
         spelled = collected_text fs xs hx ∙ s.0;
-        kept = joined (some xs) (well_all xs) (collected_some fs xs hx (row_some ts fs hf)) (collected_well fs xs hx s.1);
+        kept = and_from (some xs) (well_all xs) (collected_some fs xs hx (row_some ts fs hf)) (collected_well fs xs hx s.1);
       })
 
   pub row_list_again : (x : A) (xs : List A) → well_all (x ∷ xs) ≡ true →
@@ -193,7 +182,7 @@ module _ {A : Type 0} {make : Field → Option A} {g : A → Field} {spell : A �
   bracket_list_sound ts rest fs xs hf hx =
       let s = bracket_sound ts fs rest hf in (
         ap (λ t. t ++ punctuated mark.Close rest) (collected_text fs xs hx) ∙ s.0,
-        joined (some xs) (well_all xs) (collected_some fs xs hx (bracket_some ts fs rest hf)) (collected_well fs xs hx s.1),
+        and_from (some xs) (well_all xs) (collected_some fs xs hx (bracket_some ts fs rest hf)) (collected_well fs xs hx s.1),
       )
 
   pub bracket_list_again : (x : A) (xs : List A) (rest : Text) → well_all (x ∷ xs) ≡ true →
@@ -230,4 +219,4 @@ module _ {A : Type 0} {make : Field → Option A} {g : A → Field} {spell : A �
   pub collected_inside : (xs : List A) → well_all xs ≡ true → collected make [] (within (inside xs)) ≡ Some xs
   collected_inside [] h = refl
   collected_inside (x ∷ xs) h =
-      let ws = both (w x) (well_all xs) h in ap (collected make []) (within_fields x xs ws.0) ∙ collected_fields (x ∷ xs) h
+      let ws = and_parts (w x) (well_all xs) h in ap (collected make []) (within_fields x xs ws.0) ∙ collected_fields (x ∷ xs) h

@@ -1,12 +1,12 @@
 -- What fields are taken for is spelled as they are, and is taken again.
-use Rattle.std.proofs.Common.{◌≡◌, ℕ, Bool, true, false, ◌&&◌, List, [], ◌∷◌, ◌++◌, map, Option, Some, None, sym, ◌∙◌, ap, subst}
-use Rattle.std.proofs.Common.{refl, append_assoc, append-nil}
-use Rattle.std.specs.Prelude.{option_map, option_and_then, if◌then◌else◌}
-use Rattle.f95_tree.specs.declared.expression.Expression.{Expression, out-Expression}
+use Rattle.std.proofs.Common.{◌≡◌, true, ◌&&◌, [], ◌++◌, Option, Some, None, sym, ◌∙◌, ap}
+use Rattle.std.proofs.Common.{append_assoc}
+use Rattle.std.specs.Prelude.{option_map, option_and_then}
+use Rattle.f95_tree.specs.declared.expression.Expression.{Expression}
 use Rattle.f95_tree.specs.declared.expression.Expression.TheVariants as e
-use Rattle.f95_tree.specs.declared.expression.Reference.{Reference, out-Reference}
+use Rattle.f95_tree.specs.declared.expression.Reference.{Reference}
 use Rattle.f95_tree.specs.declared.expression.Reference.TheVariants as r
-use Rattle.f95_tree.specs.declared.expression.Item.{Item, out-Item}
+use Rattle.f95_tree.specs.declared.expression.Item.{Item}
 use Rattle.f95_tree.specs.declared.expression.Item.TheVariants as i
 use Rattle.f95_tree.specs.declared.expression.Value.{Value}
 use Rattle.f95_tree.specs.declared.expression.Value.TheVariants as v
@@ -14,33 +14,30 @@ use Rattle.f95_tree.specs.declared.declaration.Dim.{Dim}
 use Rattle.f95_tree.specs.declared.declaration.Dim.TheVariants as dim
 use Rattle.f95_tree.specs.declared.action.Bound.{Bound}
 use Rattle.f95_tree.specs.declared.action.Bound.TheVariants as bound
-use Rattle.f95_tree.specs.declared.action.Argument.{Argument}
 use Rattle.f95_tree.specs.declared.action.Assignment.{Assignment}
 use Rattle.f95_tree.specs.declared.form.CaseRange.{CaseRange}
 use Rattle.f95_tree.specs.declared.form.CaseRange.TheVariants as range
 use Rattle.f95_tree.specs.declared.terminal.Terminal.TheVariants as terminal
 use Rattle.f95_tree.specs.declared.terminal.Punctuation.TheVariants as mark
-use Rattle.f95_tree.specs.Spelling.{Text, punctuated, commas, expression, item, reference, value}
-use Rattle.f95_tree.specs.Grades.{Grade, all, some, maybe_well, grade, well, well_item, well_reference, well_value}
-use Rattle.f95_tree.specs.Forms.{Word, named, dim_text, bound_text, argument_text, range_text, assignment_text}
-use Rattle.f95_tree.specs.WellFormed.{well_dim, well_bound, well_range, well_assignment}
+use Rattle.f95_tree.specs.Spelling.{punctuated, expression, reference, value}
+use Rattle.f95_tree.specs.Grades.{Grade, well, well_reference, well_value}
+use Rattle.f95_tree.specs.Forms.{Word, named, assignment_text}
+use Rattle.f95_tree.specs.WellFormed.{well_assignment}
 use Rattle.f95_tree.proofs.Nodes.{expression-Reference, reference-Whole, value-One, well_value-One, grade-Reference}
-use Rattle.f95_tree.proofs.Nodes.{well_reference-Whole, item-Plain, item-Triplet, well_item-Plain, well_item-Triplet}
+use Rattle.f95_tree.proofs.Nodes.{well_reference-Whole}
 use Rattle.f95_tree.proofs.Views.{seen-Literal, seen-Reference, seen-Bracketed, seen-Constructor, seen-Signed, seen-Binary}
-use Rattle.f95_tree.proofs.Views.{seen-Plain, seen-Keyword, seen-Triplet, seen-Whole, seen-Items, seen-Substring, seen-One}
-use Rattle.f95_tree.proofs.Induction.{Expressions, expression_cases, item_cases}
+use Rattle.f95_tree.proofs.Views.{seen-Whole, seen-One}
+use Rattle.f95_tree.proofs.Induction.{expression_cases}
 use Rattle.f95_expressions.specs.declared.pending.Field.{Field}
 use Rattle.f95_expressions.specs.declared.pending.Spread.{Spread}
 use Rattle.f95_expressions.specs.declared.pending.Spread.TheVariants as spread
-use Rattle.f95_expressions.specs.Fields.{field_text, spread_text, left_text, well_field, well_spread}
-use Rattle.f95_expressions.specs.Machine.{lone, whole, name_in, name_in_reference, expression_in, field, collected, within}
-use Rattle.f95_expressions.specs.Machine.{expression_of, has_left}
-use Rattle.f95_expressions.proofs.Lists.{both, joined, onto}
-use Rattle.f95_expressions.proofs.Fields.{value_field, expression_field}
-use Rattle.f95_expressions.proofs.Read.{mapped, chained, lone_sound, whole_sound, value_sound, expression_sound}
-use Rattle.f95_parts.specs.Parts.{as_reference, reference_in, reference_of, name_of, spread_expression, keyword_of, argument}
-use Rattle.f95_parts.specs.Parts.{argument_of, assignment, assignment_from, assignment_of, dim_of, dim_in, dim_of_bounds, bound_of}
-use Rattle.f95_parts.specs.Parts.{bound_in, bound_of_bounds, range_of, range_from, range_of_bounds}
+use Rattle.f95_expressions.specs.Fields.{field_text, well_field}
+use Rattle.f95_expressions.specs.Machine.{lone, whole, name_in, name_in_reference, expression_in, field}
+use Rattle.f95_expressions.specs.Machine.{expression_of}
+use Rattle.f95_expressions.proofs.Fields.{expression_field}
+use Rattle.f95_expressions.proofs.Read.{mapped, chained, lone_sound, whole_sound, expression_sound}
+use Rattle.f95_parts.specs.Parts.{as_reference, reference_in, reference_of, name_of, spread_expression}
+use Rattle.f95_parts.specs.Parts.{assignment, assignment_from, assignment_of}
 
 -- ---- expressions, references and names
 

@@ -1,8 +1,9 @@
--- What stands first, both ways.
-use Rattle.std.proofs.Common.{◌≡◌, ℕ, Bool, true, false, ◌&&◌, ◌==◌, nat_eq, List, [], ◌∷◌, ◌++◌, Option, Some, None, sym, ◌∙◌, ap}
+-- What stands first, and_parts ways.
+use Rattle.std.proofs.Common.{◌≡◌, ℕ, true, ◌==◌, nat_eq, List, [], ◌∷◌, Option, Some, None, ◌∙◌, ap}
 use Rattle.std.proofs.Common.{refl}
 use Rattle.std.specs.Prelude.{option_map, option_and_then, if◌then◌else◌}
-use Rattle.std.proofs.lemmas.Bool.{eqb-true, eq-eqb}
+use Rattle.std.proofs.lemmas.Bool.{eqb-true, eq-eqb, and_parts, and_from}
+use Rattle.a95_base.proofs.Tests.{by_test}
 use Rattle.f95_tree.specs.declared.expression.Literal.{Literal}
 use Rattle.f95_tree.specs.declared.terminal.Terminal.{Terminal}
 use Rattle.f95_tree.specs.declared.terminal.Terminal.TheVariants as terminal
@@ -12,7 +13,6 @@ use Rattle.f95_tree.specs.declared.terminal.Punctuation.{Punctuation}
 use Rattle.f95_tree.specs.declared.terminal.Punctuation.TheVariants as mark
 use Rattle.f95_tree.specs.Forms.{Word, maybe_named, star}
 use Rattle.f95_tree.specs.Spelling.{Text, punctuated}
-use Rattle.f95_expressions.proofs.Lists.{both, joined, by_test}
 use Rattle.f95_expressions.proofs.Read.{mapped, chained}
 use Rattle.f95_parts.specs.Views.{is, is_nil, mark_number, is_mark, is_star, behind, behind_star, as_name, as_keyword, as_literal}
 use Rattle.f95_parts.specs.Views.{behind_name, behind_keyword, behind_literal, behind_word, at_end, nothing_more, name_at_end}
@@ -26,7 +26,7 @@ same_word [] [] h = refl
 same_word [] (y ∷ w) h = absurd (cc)
 same_word (x ∷ n) [] h = absurd (cc)
 same_word (x ∷ n) (y ∷ w) h =
-    let parts = both (nat_eq x y) (is w n) h in ap (λ z. z ∷ n) (eqb-true x y parts.0) ∙ ap (λ n. y ∷ n) (same_word n w parts.1)
+    let parts = and_parts (nat_eq x y) (is w n) h in ap (λ z. z ∷ n) (eqb-true x y parts.0) ∙ ap (λ n. y ∷ n) (same_word n w parts.1)
 
 same_mark : (p q : Punctuation) → (mark_number p == mark_number q) ≡ true → q ≡ p
 same_mark mark.Open mark.Open h = refl
@@ -150,7 +150,7 @@ literal_again l rest = refl
 
 word_is : (w : Word) → is w w ≡ true
 word_is [] = refl
-word_is (x ∷ w) = joined (nat_eq x x) (is w w) (eq-eqb x x refl) (word_is w)
+word_is (x ∷ w) = and_from (nat_eq x x) (is w w) (eq-eqb x x refl) (word_is w)
 
 pub word_again : (w : Word) (rest : Text) → behind_word w (terminal.Name w ∷ rest) ≡ Some rest
 word_again w rest = ap (λ b. if b then Some rest else None) (word_is w)

@@ -1,16 +1,14 @@
 -- Statements judged one after another.
-use Rattle.std.proofs.Common.{◌≡◌, ℕ, ◌≤◌, ◌<◌, List, [], ◌∷◌, ◌++◌, Option, Some, None, sym, ◌∙◌, ap, subst, refl, inl, inr}
-use Rattle.std.proofs.Common.{⊎_elim, append_assoc, append-nil, arith, length, drop, ◌+◌}
-use Rattle.std.proofs.lemmas.List.{drop_all, drop_more}
-use Rattle.std.proofs.Math.ListN.{get_or}
+use Rattle.std.proofs.Common.{◌≡◌, ℕ, ◌≤◌, List, [], ◌∷◌, ◌++◌, Some, None, sym, ◌∙◌, ap, subst, refl, inl, inr}
+use Rattle.std.proofs.Common.{append_assoc, append-nil, arith, length, ◌+◌}
 use Rattle.a95_base.specs.Lists.{Member}
 use Rattle.a95_base.specs.declared.breaks.Break.{Break}
 use Rattle.a95_base.specs.Breaks.{IsLeast, AreBroken, broken_at, first_of}
-use Rattle.a95_base.proofs.First.{first_is_least}
+use Rattle.a95_base.proofs.First.{first_is_least, no_break}
 use Rattle.f95_lexer.specs.declared.token.Statement.{Statement}
 use Rattle.f95_lexer.specs.declared.token.Token.{Token}
 use Rattle.f95_tree.specs.declared.form.Form.{Form}
-use Rattle.f95_parser.specs.Rules.{IsOfForm, Broken, no_form, left_out, too_many_open, begins_left_out, most_open, most_brackets}
+use Rattle.f95_parser.specs.Rules.{IsOfForm, Broken, no_form, left_out, too_many_open, most_open, most_brackets}
 use Rattle.f95_nesting.specs.Nesting.{Lined}
 use Rattle.f95_reader.specs.Reading.{IsFormOf, AreForms}
 use Rattle.f95_reader.specs.Judging.{OneBreaks, Judged, Adds, form, broken, GoesOn}
@@ -141,10 +139,6 @@ pub break_added : (s : Statement) (ts : List Token) (l r : ℕ) (fs : List Lined
 break_added s ts l r fs bs cs same b e = subst (λ z. Adds s fs bs fs z) (sym e)
     (broken l r (subst (λ t. Broken s.line.0 t l r) same b))
 
-no_first : (bs : List Break) → first_of bs ≡ None → bs ≡ []
-no_first [] e = refl
-no_first (b ∷ bs) e = absurd (cc)
-
 pub formed_judged : (whole : List Statement) (fs : List Lined) (bs : List Break) → Judged whole fs bs → first_of bs ≡ None →
     AreForms whole fs
-formed_judged whole fs bs j e = j.formed (no_first bs e)
+formed_judged whole fs bs j e = j.formed (no_break bs e)

@@ -1,25 +1,24 @@
 -- Bytes are cut into no more tokens than there are bytes: each token has a character that is no blank and ends nothing.
-use Rattle.std.proofs.Common.{◌≡◌, ℕ, zero, suc, ◌+◌, ◌≤◌, Bool, true, false, ◌&&◌, ◌||◌, ◌==◌, cond, List, [], ◌∷◌, ◌++◌, length}
-use Rattle.std.proofs.Common.{map, Option, Some, None, sym, ◌∙◌, ap, subst, refl, inl, inr, ⊎_elim, arith}
-use Rattle.std.specs.Prelude.{if◌then◌else◌}
-use Rattle.std.specs.List.{flat_map}
+use Rattle.std.proofs.Common.{◌≡◌, ℕ, suc, ◌+◌, ◌≤◌, Bool, true, false, ◌&&◌, ◌==◌, cond, List, [], ◌∷◌, ◌++◌, length}
+use Rattle.std.proofs.Common.{map, Option, Some, None, sym, ◌∙◌, ap, subst, refl, arith}
 use Rattle.std.proofs.lemmas.Bool.Decides.{nat_tests}
+use Rattle.a95_base.specs.Input.{is_digit}
 use Rattle.f95_lexer.specs.declared.character.Character.{Character}
 use Rattle.f95_lexer.specs.declared.token.Token.{Token}
 use Rattle.f95_lexer.specs.declared.token.Token.TheVariants as token
 use Rattle.f95_lexer.specs.declared.token.Mark.{Mark}
 use Rattle.f95_lexer.specs.declared.token.Mark.TheVariants as mark
 use Rattle.f95_lexer.specs.declared.token.Statement.{Statement}
-use Rattle.f95_lexer.specs.Characters.{is_blank, is_letter, is_digit, is_delimiter, from_blank, AllPass}
+use Rattle.f95_lexer.specs.Characters.{is_blank, is_letter, is_delimiter, from_blank}
 use Rattle.f95_lexer.specs.Lexeme.{bytes_of}
 use Rattle.f95_lexer.specs.Lines.{onto, begins_with_feed, text_lines}
-use Rattle.f95_lexer.specs.Statements.{Item, Ends, Stands, Parts, statement, with_statement, whole, parts_of, statements_of}
-use Rattle.f95_lexer.specs.Spelling.{SpellsToken, SpellsWord, SpellsNumber, SpellsText, SpellsDotted, SpellsMark, symbol_text}
-use Rattle.f95_lexer.specs.Spelling.{Spells, Spelled, nothing, next, Cuts}
+use Rattle.f95_lexer.specs.Statements.{Item, Ends, Stands, Parts, with_statement, parts_of, statements_of}
+use Rattle.f95_lexer.specs.Spelling.{SpellsToken, symbol_text}
+use Rattle.f95_lexer.specs.Spelling.{Spelled, nothing, next, Cuts}
 use Rattle.f95_lexer.specs.Continuation.{Onward, Ended, after, StatementLine, opened, kept, parted, character, characters}
 use Rattle.f95_lexer.specs.Continuation.{all_characters, IsCode, whole as uncommented, commented, IsContinued, goes_on, ends}
 use Rattle.f95_lexer.specs.Continuation.{HasBody, Begins, initial, joined, apart, continues_nothing, cut_off, IsRead, alone, more}
-use Rattle.f95_lexer.specs.Continuation.{AreRead, none, passed, stands, HasLines}
+use Rattle.f95_lexer.specs.Continuation.{AreRead, none, passed, stands}
 use Rattle.f95_reader.specs.Sizes.{token_count}
 
 -- whether a character is neither blank nor a line feed

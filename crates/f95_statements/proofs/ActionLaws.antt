@@ -1,9 +1,10 @@
 -- Statements that may stand behind IF ( e ): what is read is spelled as the terminals and well formed, and what is
 -- spelled so is read.
-use Rattle.std.proofs.Common.{◌≡◌, Bool, true, false, ◌&&◌, List, [], ◌∷◌, ◌++◌, map, Option, Some, None, sym, ◌∙◌, ap, subst, refl}
+use Rattle.std.proofs.Common.{◌≡◌, Bool, true, ◌&&◌, [], ◌∷◌, ◌++◌, map, Option, Some, None, sym, ◌∙◌, ap, subst, refl}
 use Rattle.std.specs.Prelude.{option_map, option_and_then, if◌then◌else◌}
 use Rattle.std.proofs.Math.Bool.{and-true}
-use Rattle.f95_tree.specs.declared.expression.Expression.{Expression}
+use Rattle.std.proofs.lemmas.Bool.{and_parts, and_from}
+use Rattle.a95_base.proofs.Tests.{by_test}
 use Rattle.f95_tree.specs.declared.expression.Reference.{Reference}
 use Rattle.f95_tree.specs.declared.expression.Literal.{Literal}
 use Rattle.f95_tree.specs.declared.expression.Literal.TheVariants as literal
@@ -17,9 +18,7 @@ use Rattle.f95_tree.specs.declared.terminal.ActionWord.{ActionWord}
 use Rattle.f95_tree.specs.declared.terminal.ActionWord.TheVariants as word
 use Rattle.f95_tree.specs.declared.action.Action.{Action}
 use Rattle.f95_tree.specs.declared.action.Action.TheVariants as act
-use Rattle.f95_tree.specs.declared.action.Argument.{Argument}
 use Rattle.f95_tree.specs.declared.action.Assignment.{Assignment}
-use Rattle.f95_tree.specs.declared.action.Header.{Header}
 use Rattle.f95_tree.specs.Spelling.{Text, punctuated, behind_commas, commas, in_brackets, expression, reference}
 use Rattle.f95_tree.specs.Grades.{all, some, well, well_reference}
 use Rattle.f95_tree.specs.Forms.{Word, named, maybe_named, star, action_word, block_word, any_unit, argument_text, allocation_text}
@@ -28,7 +27,6 @@ use Rattle.f95_tree.specs.WellFormed.{well_allocation, well_assignment, well_hea
 use Rattle.f95_tree.proofs.Nodes.{reference-Whole, reference-Items, reference-Substring}
 use Rattle.f95_tree.proofs.Induction.{reference_cases}
 use Rattle.f95_expressions.specs.Machine.{collected, expression_of}
-use Rattle.f95_expressions.proofs.Lists.{both, joined, by_test}
 use Rattle.f95_expressions.proofs.Read.{mapped, chained}
 use Rattle.f95_parts.specs.Views.{is_nil, behind_star, behind_name, behind_keyword, behind_literal, at_end, nothing_more}
 use Rattle.f95_parts.specs.Views.{name_at_end}
@@ -39,7 +37,7 @@ use Rattle.f95_parts.proofs.ListLaws.{Is}
 use Rattle.f95_parts.proofs.Instances.{expressions, references, names, always, all_names, well_argument, arguments, allocations}
 use Rattle.f95_statements.specs.Actions.{whole_bracket, listed, listed_behind, conditioned, headed, assigned, behind_unit}
 use Rattle.f95_statements.specs.Actions.{arguments_of, call_named, call_of, allocate_of, deallocate_of, print_of, write_of}
-use Rattle.f95_statements.specs.Actions.{read_unit, read_by, read_of, stop_code, stop_of, action_by, where_of, forall_of, blocked}
+use Rattle.f95_statements.specs.Actions.{read_unit, read_by, stop_code, stop_of, action_by, where_of, forall_of, blocked}
 use Rattle.f95_statements.specs.Actions.{action_worded, action_keyed, action_of}
 use Rattle.f95_statements.proofs.ConditionLaws.{assigned_sound, assigned_again, conditioned_sound, conditioned_again, headed_sound}
 use Rattle.f95_statements.proofs.ConditionLaws.{headed_again, whole_list_sound, whole_list_again, within_sound, within_again}
@@ -209,7 +207,7 @@ where_sound ts a h = chained (λ p. option_map (act.Where p.0) (assigned p.1)) (
     let s = assigned_sound p.1 x hx in record {
       spelled = ap action_text (sym is) ∙ ap (λ t. block_word block.Where ∷ (in_brackets (expression p.0) ++ t)) s.spelled
           ∙ ap (λ t. block_word block.Where ∷ t) c.spelled;
-      kept = ap well_action (sym is) ∙ joined (well p.0) (well_assignment x) c.kept s.kept;
+      kept = ap well_action (sym is) ∙ and_from (well p.0) (well_assignment x) c.kept s.kept;
     }))
 
 forall_sound : (ts : Text) (a : Action) → forall_of ts ≡ Some a → ActionIs (block_word block.Forall ∷ ts) a
@@ -219,7 +217,7 @@ forall_sound ts a h = chained (λ p. option_map (act.Forall p.0) (assigned p.1))
     let s = assigned_sound p.1 x hx in record {
       spelled = ap action_text (sym is) ∙ ap (λ t. block_word block.Forall ∷ (header_text p.0 ++ t)) s.spelled
           ∙ ap (λ t. block_word block.Forall ∷ t) c.spelled;
-      kept = ap well_action (sym is) ∙ joined (well_header p.0) (well_assignment x) c.kept s.kept;
+      kept = ap well_action (sym is) ∙ and_from (well_header p.0) (well_assignment x) c.kept s.kept;
     }))
 
 blocked_sound : (w : BlockWord) (ts : Text) (a : Action) → blocked w ts ≡ Some a → ActionIs (block_word w ∷ ts) a
@@ -259,7 +257,7 @@ action_again (act.Call n None) w = refl
 action_again (act.Call n (Some xs)) w = ap (option_map (λ xs. act.Call n (Some xs))) (within_again arguments xs w)
 action_again (act.Allocate xs) w = ap (option_map act.Allocate) (whole_list_again allocations xs w)
 action_again (act.Deallocate ns) w =
-    ap (option_map act.Deallocate) (whole_list_again names ns (joined (some ns) (all (map always ns)) w (all_names ns)))
+    ap (option_map act.Deallocate) (whole_list_again names ns (and_from (some ns) (all (map always ns)) w (all_names ns)))
 action_again (act.Print xs) w = ap (option_map act.Print) (listed_behind_again expressions xs w)
 action_again (act.Write xs) w = ap (option_map act.Write) (listed_again expressions xs w)
 action_again (act.Read xs) w = ap (option_map act.Read) (listed_behind_again references xs w)
@@ -273,10 +271,10 @@ action_again act.Continue w = refl
 action_again (act.Exit n) w = ap (option_map act.Exit) (name_end_again n)
 action_again (act.Cycle n) w = ap (option_map act.Cycle) (name_end_again n)
 action_again (act.Where mask a) w =
-    let ws = both (well mask) (well_assignment a) w in
+    let ws = and_parts (well mask) (well_assignment a) w in
     ap (option_and_then (λ p. option_map (act.Where p.0) (assigned p.1))) (conditioned_again mask (assignment_text a) ws.0)
     ∙ ap (option_map (act.Where mask)) (assigned_again a ws.1)
 action_again (act.Forall header a) w =
-    let ws = both (well_header header) (well_assignment a) w in
+    let ws = and_parts (well_header header) (well_assignment a) w in
     ap (option_and_then (λ p. option_map (act.Forall p.0) (assigned p.1))) (headed_again header (assignment_text a) ws.0)
     ∙ ap (option_map (act.Forall header)) (assigned_again a ws.1)

@@ -1,32 +1,8 @@
 -- Attributes, one after another: what is read is spelled as the terminals, and what is spelled is read.
-use Rattle.std.proofs.Common.{
-  ◌≡◌,
-  ℕ,
-  zero,
-  suc,
-  length,
-  Bool,
-  true,
-  false,
-  ◌&&◌,
-  List,
-  [],
-  ◌∷◌,
-  ◌++◌,
-  map,
-  Option,
-  Some,
-  None,
-  sym,
-  ◌∙◌,
-  ap,
-  subst,
-  refl,
-  append_assoc,
-  codes,
-}
+use Rattle.std.proofs.Common.{◌≡◌, ℕ, zero, suc, length, true, List, [], ◌∷◌, ◌++◌, map, Option, Some, None, sym, ◌∙◌, ap, subst, refl, append_assoc, codes}
 use Rattle.std.specs.Prelude.{option_map, option_and_then, if◌then◌else◌}
-use Rattle.f95_tree.specs.declared.expression.Item.{Item}
+use Rattle.std.proofs.lemmas.Bool.{and_parts, and_from}
+use Rattle.a95_base.proofs.Tests.{by_test}
 use Rattle.f95_tree.specs.declared.declaration.Attribute.{Attribute}
 use Rattle.f95_tree.specs.declared.declaration.Attribute.TheVariants as attribute
 use Rattle.f95_tree.specs.declared.declaration.Dim.{Dim}
@@ -40,7 +16,7 @@ use Rattle.f95_tree.specs.Grades.{all, some, well_item}
 use Rattle.f95_tree.specs.Forms.{Word, named, dims_text, intent_text, attribute_text}
 use Rattle.f95_tree.specs.WellFormed.{well_dim, well_dims, well_attribute}
 use Rattle.f95_expressions.specs.Machine.{item_of, items_of, bracket}
-use Rattle.f95_expressions.proofs.Lists.{both, joined, by_test, onto}
+use Rattle.f95_expressions.proofs.Lists.{onto}
 use Rattle.f95_expressions.proofs.Fields.{item_field, item_back, item_text}
 use Rattle.f95_expressions.proofs.Read.{mapped, chained, item_sound}
 use Rattle.f95_expressions.proofs.Made.{well_item_field}
@@ -144,14 +120,14 @@ dimension_sound ts p h = chained (λ inside.
           ∙ ap (λ t. terminal.Name (codes "dimension") ∷ punctuated mark.Open t)
           (append_assoc (commas (map item xs)) (punctuated mark.Close []) found.1 ∙ l.0)
           ∙ ap (λ t. terminal.Name (codes "dimension") ∷ t) (sym (behind_sound mark.Open ts inside hi));
-      kept = joined (some dims) (all (map well_dim dims)) d.1 (sym (dims_well dims) ∙ sym (ap (λ xs. all (map well_item xs)) d.0)
+      kept = and_from (some dims) (all (map well_dim dims)) d.1 (sym (dims_well dims) ∙ sym (ap (λ xs. all (map well_item xs)) d.0)
           ∙ l.1);
     }))))
 
 dimension_again : (dims : List Dim) (rest : Text) → well_dims dims ≡ true →
     dimension_of (dims_text dims ++ rest) ≡ Some (attribute.Dimension dims, rest)
 dimension_again dims rest w =
-    let ws = both (some dims) (all (map well_dim dims)) w in
+    let ws = and_parts (some dims) (all (map well_dim dims)) w in
     let xs = map dim_item dims in
     let wells = dims_well dims ∙ ws.1 in
     ap (λ t. dimension_of (t ++ rest)) (sym (dims_spelled dims))
@@ -237,7 +213,7 @@ next_run n done ts (Some p) is more =
       newest = m.newest;
       spelled = ap (punctuated mark.Comma) (append_assoc (attribute_text p.0) (behind_commas (map attribute_text m.front)) rest
           ∙ ap (λ t. attribute_text p.0 ++ t) m.spelled) ∙ s.spelled;
-      kept = joined (well_attribute p.0) (all (map well_attribute m.front)) s.kept m.kept;
+      kept = and_from (well_attribute p.0) (all (map well_attribute m.front)) s.kept m.kept;
     }
 
 run_in : (n : ℕ) (done : List Attribute) (ts : Text) → RunTo done ts (attributes_in n done ts)
@@ -252,7 +228,7 @@ pub attributes_again : (attributes done : List Attribute) (rest : Text) → all 
     attributes_of done (behind_commas (map attribute_text attributes) ++ rest) ≡ (onto attributes done, rest)
 attributes_again [] done rest w stops = attribute_stop done rest stops
 attributes_again (a ∷ more) done rest w stops =
-    let ws = both (well_attribute a) (all (map well_attribute more)) w in
+    let ws = and_parts (well_attribute a) (all (map well_attribute more)) w in
     let text = behind_commas (map attribute_text more) ++ rest in
     ap (λ t. attributes_of done (punctuated mark.Comma t))
     (append_assoc (attribute_text a) (behind_commas (map attribute_text more)) rest)

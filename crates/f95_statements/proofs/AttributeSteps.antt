@@ -1,7 +1,8 @@
 -- Attributes, one after another.
-use Rattle.std.proofs.Common.{◌≡◌, ℕ, zero, suc, ◌+◌, ◌<◌, ◌≤◌, length, Bool, true, false, List, [], ◌∷◌, ◌++◌, Option, Some, None}
-use Rattle.std.proofs.Common.{refl, sym, ◌∙◌, ap, subst, arith, length-append, codes}
+use Rattle.std.proofs.Common.{◌≡◌, ℕ, zero, suc, ◌<◌, ◌≤◌, length, List, [], ◌∷◌, Option, Some, None}
+use Rattle.std.proofs.Common.{refl, ◌∙◌, ap, arith, length-append, codes}
 use Rattle.std.specs.Prelude.{option_map, option_and_then, if◌then◌else◌}
+use Rattle.a95_base.proofs.Tests.{by_test}
 use Rattle.f95_tree.specs.declared.declaration.Attribute.{Attribute}
 use Rattle.f95_tree.specs.declared.declaration.Attribute.TheVariants as attribute
 use Rattle.f95_tree.specs.declared.declaration.Intent.{Intent}
@@ -13,7 +14,6 @@ use Rattle.f95_tree.specs.Spelling.{Text, punctuated}
 use Rattle.f95_expressions.specs.declared.pending.Field.{Field}
 use Rattle.f95_expressions.specs.Fields.{fields_text}
 use Rattle.f95_expressions.specs.Machine.{bracket, items_of}
-use Rattle.f95_expressions.proofs.Lists.{by_test}
 use Rattle.f95_expressions.proofs.Read.{mapped, chained}
 use Rattle.f95_expressions.proofs.Found.{bracket_sound}
 use Rattle.f95_parts.specs.Views.{is, is_mark, as_name, behind, behind_name, behind_word}

@@ -1,7 +1,9 @@
 -- Brackets and rows of statements: what is read is spelled as the terminals and well formed, and what is spelled so is read.
-use Rattle.std.proofs.Common.{◌≡◌, Bool, true, false, ◌&&◌, List, [], ◌∷◌, ◌++◌, map, Option, Some, None, sym, ◌∙◌, ap, subst, refl}
+use Rattle.std.proofs.Common.{◌≡◌, Bool, true, false, ◌&&◌, List, [], ◌∷◌, ◌++◌, map, Option, Some, sym, ◌∙◌, ap, subst, refl}
 use Rattle.std.proofs.Common.{append_assoc, append-nil}
 use Rattle.std.specs.Prelude.{option_map, option_and_then, if◌then◌else◌}
+use Rattle.std.proofs.lemmas.Bool.{and_parts}
+use Rattle.a95_base.proofs.Tests.{by_test}
 use Rattle.f95_tree.specs.declared.expression.Expression.{Expression}
 use Rattle.f95_tree.specs.declared.terminal.Punctuation.TheVariants as mark
 use Rattle.f95_tree.specs.declared.action.Assignment.{Assignment}
@@ -13,13 +15,12 @@ use Rattle.f95_tree.specs.WellFormed.{well_assignment, well_header}
 use Rattle.f95_expressions.specs.declared.pending.Field.{Field}
 use Rattle.f95_expressions.specs.Fields.{fields_text, well_fields}
 use Rattle.f95_expressions.specs.Machine.{collected, within, expression_of, bracket, row}
-use Rattle.f95_expressions.proofs.Lists.{both, joined, by_test}
 use Rattle.f95_expressions.proofs.Fields.{expression_field}
 use Rattle.f95_expressions.proofs.Read.{mapped, chained, expression_sound}
 use Rattle.f95_expressions.proofs.Found.{bracket_again, bracket_sound, row_again, row_sound}
 use Rattle.f95_parts.specs.Views.{is_nil, behind, behind_star, at_end}
 use Rattle.f95_parts.specs.Parts.{header_of, assignment_of}
-use Rattle.f95_parts.proofs.ViewLaws.{nil, behind_sound, behind_again, star_sound, end_sound}
+use Rattle.f95_parts.proofs.ViewLaws.{nil, behind_sound, star_sound, end_sound}
 use Rattle.f95_parts.proofs.PartLaws.{expression_again, expression_text, expression_well, assignment_field, assignment_sound}
 use Rattle.f95_parts.proofs.PartLaws.{assignment_again, assignment_spelled, assignment_well}
 use Rattle.f95_parts.proofs.HeaderLaws.{inside_text, header_fields, header_sound, header_again}
@@ -207,7 +208,7 @@ module _ {A : Type 0} {make : Field → Option A} {g : A → Field} {spell : A �
       })
       (λ _ h. let s = row_list_sound parts ts xs h in record {
         spelled = s.spelled;
-        kept = (both (some xs) (all (map w xs)) s.kept).1;
+        kept = (and_parts (some xs) (all (map w xs)) s.kept).1;
       })
       h
 
@@ -240,7 +241,7 @@ module _ {A : Type 0} {make : Field → Option A} {g : A → Field} {spell : A �
       })
       (λ _ h. chained (λ rest. option_and_then (collected make []) (row rest)) (behind mark.Comma ts) xs h (λ rest hr hx.
       let s = row_list_sound parts rest xs hx in
-      let ws = both (some xs) (all (map w xs)) s.kept in record {
+      let ws = and_parts (some xs) (all (map w xs)) s.kept in record {
         spelled = behind_first xs ws.0 ∙ ap (punctuated mark.Comma) s.spelled ∙ sym (behind_sound mark.Comma ts rest hr);
         kept = ws.1;
       }))

@@ -26,6 +26,8 @@ use Rattle.std.proofs.Common.{
 }
 use Rattle.std.specs.Prelude.{option_map, option_and_then, if◌then◌else◌}
 use Rattle.std.proofs.lemmas.List.{reverse-append, reverse-reverse}
+use Rattle.std.proofs.lemmas.Bool.{and_parts, and_from}
+use Rattle.a95_base.proofs.Tests.{by_test}
 use Rattle.f95_tree.specs.declared.declaration.Attribute.{Attribute}
 use Rattle.f95_tree.specs.declared.declaration.Declaration.{Declaration}
 use Rattle.f95_tree.specs.declared.declaration.Entity.{Entity}
@@ -35,25 +37,13 @@ use Rattle.f95_tree.specs.Spelling.{Text, punctuated, behind_commas, commas}
 use Rattle.f95_tree.specs.Grades.{all, some}
 use Rattle.f95_tree.specs.Forms.{attribute_text, entity_text, colons_text, type_text, declaration_text}
 use Rattle.f95_tree.specs.WellFormed.{well_attribute, well_entity, well_type, well_declaration}
-use Rattle.f95_expressions.proofs.Lists.{both, joined, by_test, onto}
+use Rattle.f95_expressions.proofs.Lists.{onto}
 use Rattle.f95_expressions.proofs.Read.{mapped, chained}
 use Rattle.f95_parts.specs.Views.{behind}
-use Rattle.f95_parts.specs.Parts.{entity_of}
 use Rattle.f95_parts.proofs.ViewLaws.{behind_sound}
-use Rattle.f95_parts.proofs.EntityLaws.{entity_field}
 use Rattle.f95_parts.proofs.Instances.{entity_parts}
 use Rattle.f95_parts.proofs.ListLaws.{Is, row_list_sound, row_list_again}
-use Rattle.f95_statements.specs.Declarations.{
-  declaration,
-  entities_of,
-  no_initials,
-  bare,
-  declared_by,
-  declared,
-  declaration_of,
-  next_attribute,
-  attributes_of,
-}
+use Rattle.f95_statements.specs.Declarations.{declaration, entities_of, no_initials, bare, declared_by, declared, declaration_of, attributes_of}
 use Rattle.f95_statements.proofs.AttributeSteps.{attribute_stop}
 use Rattle.f95_statements.proofs.AttributeLaws.{Run, attributes_sound, attributes_again}
 
@@ -95,15 +85,15 @@ colons_sound : (t : TypeSpec) (found : List Attribute) (ts rest more : Text) (d 
     DeclarationIn t ts d
 colons_sound t found ts rest more d w run is h = mapped (declaration t (reverse found) true) (entities_of more) d h (λ es he de.
     let s = entities_sound more es he in
-    let ws = both (some es) (well_entities es) s.kept in
+    let ws = and_parts (some es) (well_entities es) s.kept in
     let order = ap reverse run.newest ∙ in_order run.front in
     subst (DeclarationIn t ts) (ap (λ attributes. declaration t attributes true es) (sym order) ∙ de) record {
       spelled = ap (λ u. type_text t ++ u)
           (ap (λ u. behind_commas (map attribute_text run.front) ++ u) (ap (punctuated mark.DoubleColon) s.spelled ∙ sym is)
           ∙ run.spelled);
-      kept = joined (well_type t) (all (map well_attribute run.front) && (some es && (well_entities es && true))) w
-          (joined (all (map well_attribute run.front)) (some es && (well_entities es && true)) run.kept
-          (joined (some es) (well_entities es && true) ws.0 (joined (well_entities es) true ws.1 refl)));
+      kept = and_from (well_type t) (all (map well_attribute run.front) && (some es && (well_entities es && true))) w
+          (and_from (all (map well_attribute run.front)) (some es && (well_entities es && true)) run.kept
+          (and_from (some es) (well_entities es && true) ws.0 (and_from (well_entities es) true ws.1 refl)));
     })
 
 bare_sound : (t : TypeSpec) (es : List Entity) (d : Declaration) → bare t es ≡ Some d →
@@ -116,14 +106,14 @@ no_colons_sound : (t : TypeSpec) (ts rest : Text) (d : Declaration) → well_typ
     option_and_then (bare t) (entities_of rest) ≡ Some d → DeclarationIn t ts d
 no_colons_sound t ts rest d w run h = chained (bare t) (entities_of rest) d h (λ es he hb.
     let s = entities_sound rest es he in
-    let ws = both (some es) (well_entities es) s.kept in
+    let ws = and_parts (some es) (well_entities es) s.kept in
     let b = bare_sound t es d hb in
     let none : [] ≡ run.front = ap reverse run.newest ∙ in_order run.front in
     subst (DeclarationIn t ts) b.0 record {
       spelled = ap (λ u. type_text t ++ u) (s.spelled
           ∙ ap (λ attributes. behind_commas (map attribute_text attributes) ++ rest) none ∙ run.spelled);
-      kept = joined (well_type t) (some es && (well_entities es && no_initials es)) w
-          (joined (some es) (well_entities es && no_initials es) ws.0 (joined (well_entities es) (no_initials es) ws.1 b.1));
+      kept = and_from (well_type t) (some es && (well_entities es && no_initials es)) w
+          (and_from (some es) (well_entities es && no_initials es) ws.0 (and_from (well_entities es) (no_initials es) ws.1 b.1));
     })
 
 declared_sound : (o : Option Text) (t : TypeSpec) (found : List Attribute) (ts rest : Text) (d : Declaration) →
@@ -173,12 +163,12 @@ pub declaration_again : (d : Declaration) → well_declaration d ≡ true → de
 declaration_again d w =
     let attributes = all (map well_attribute d.attributes) in
     let colons = d.colons || (not (some d.attributes) && no_initials d.entities) in
-    let w1 = both (well_type d.of) (attributes && (some d.entities && (well_entities d.entities && colons))) w in
-    let w2 = both attributes (some d.entities && (well_entities d.entities && colons)) w1.1 in
-    let w3 = both (some d.entities) (well_entities d.entities && colons) w2.1 in
-    let w4 = both (well_entities d.entities) colons w3.1 in
+    let w1 = and_parts (well_type d.of) (attributes && (some d.entities && (well_entities d.entities && colons))) w in
+    let w2 = and_parts attributes (some d.entities && (well_entities d.entities && colons)) w1.1 in
+    let w3 = and_parts (some d.entities) (well_entities d.entities && colons) w2.1 in
+    let w4 = and_parts (well_entities d.entities) colons w3.1 in
     again_by_colons d.of d.attributes d.colons d.entities w2.0 w3.0 w4.0 w4.1
 
 pub declared_type : (d : Declaration) → well_declaration d ≡ true → well_type d.of ≡ true
-declared_type d w = (both (well_type d.of) (all (map well_attribute d.attributes) && (some d.entities && (well_entities d.entities
+declared_type d w = (and_parts (well_type d.of) (all (map well_attribute d.attributes) && (some d.entities && (well_entities d.entities
     && (d.colons || (not (some d.attributes) && no_initials d.entities))))) w).0

@@ -1,33 +1,8 @@
 -- Statements that begin procedures: what is read is spelled as the terminals, and what is spelled is read.
-use Rattle.std.proofs.Common.{
-  ◌≡◌,
-  ℕ,
-  Bool,
-  true,
-  false,
-  ◌&&◌,
-  ◌||◌,
-  ◌==◌,
-  not,
-  reverse,
-  List,
-  [],
-  ◌∷◌,
-  ◌++◌,
-  map,
-  Option,
-  Some,
-  None,
-  sym,
-  ◌∙◌,
-  ap,
-  subst,
-  refl,
-  append_assoc,
-  append-nil,
-  codes,
-}
+use Rattle.std.proofs.Common.{◌≡◌, Bool, true, false, ◌&&◌, not, reverse, List, [], ◌∷◌, ◌++◌, map, Option, Some, None, sym, ◌∙◌, ap, subst, refl, append_assoc, codes}
 use Rattle.std.specs.Prelude.{option_map, option_and_then, if◌then◌else◌}
+use Rattle.std.proofs.lemmas.Bool.{and_parts, not-true, and_from}
+use Rattle.a95_base.proofs.Tests.{by_test}
 use Rattle.f95_tree.specs.declared.declaration.Attribute.{Attribute}
 use Rattle.f95_tree.specs.declared.declaration.Declaration.{Declaration}
 use Rattle.f95_tree.specs.declared.declaration.Entity.{Entity}
@@ -50,22 +25,9 @@ use Rattle.f95_tree.specs.declared.terminal.UnitWord.TheVariants as unit
 use Rattle.f95_tree.specs.declared.terminal.TypeWord.{TypeWord}
 use Rattle.f95_tree.specs.declared.terminal.PrefixWord.TheVariants as prefix_name
 use Rattle.f95_tree.specs.declared.terminal.Punctuation.TheVariants as mark
-use Rattle.f95_tree.specs.Spelling.{Text, punctuated, commas, in_brackets}
+use Rattle.f95_tree.specs.Spelling.{Text, punctuated, in_brackets}
 use Rattle.f95_tree.specs.Grades.{all}
-use Rattle.f95_tree.specs.Forms.{
-  Word,
-  named,
-  names,
-  type_text,
-  declaration_text,
-  unit_word,
-  prefix_text,
-  prefixes_text,
-  maybe_dummies,
-  result_text,
-  heading_text,
-  spell_form,
-}
+use Rattle.f95_tree.specs.Forms.{Word, names, type_text, declaration_text, unit_word, prefix_text, prefixes_text, maybe_dummies, result_text, heading_text, spell_form}
 use Rattle.f95_tree.specs.WellFormed.{
   well_type,
   well_declaration,
@@ -79,14 +41,12 @@ use Rattle.f95_tree.specs.WellFormed.{
 }
 use Rattle.f95_expressions.specs.declared.pending.Field.{Field}
 use Rattle.f95_expressions.specs.Machine.{bracket}
-use Rattle.f95_expressions.proofs.Lists.{both, joined, by_test, onto, onto_append}
+use Rattle.f95_expressions.proofs.Lists.{onto, onto_append}
 use Rattle.f95_expressions.proofs.Read.{mapped, chained}
 use Rattle.f95_parts.specs.Views.{is_nil, behind, behind_name, behind_keyword, behind_word, at_end, nothing_more}
-use Rattle.f95_parts.specs.Parts.{name_of}
 use Rattle.f95_parts.proofs.ViewLaws.{nil, behind_sound, name_sound, keyword_sound, word_sound, more_sound, end_sound}
-use Rattle.f95_parts.proofs.PartLaws.{name_field}
 use Rattle.f95_parts.proofs.ListLaws.{Is, within_list_sound, within_list_again, collected_inside}
-use Rattle.f95_parts.proofs.Instances.{always, all_names}
+use Rattle.f95_parts.proofs.Instances.{all_names}
 use Rattle.f95_parts.proofs.Instances as instance
 use Rattle.f95_statements.specs.Actions.{whole_bracket}
 use Rattle.f95_statements.specs.Declarations.{
@@ -115,16 +75,7 @@ use Rattle.f95_statements.specs.Declarations.{
   is_keyed,
   typed_form,
 }
-use Rattle.f95_statements.proofs.TypeLaws.{
-  Leads,
-  begins_length,
-  word_of,
-  behind_type,
-  type_terminal,
-  type_spelled,
-  type_sound,
-  type_again,
-}
+use Rattle.f95_statements.proofs.TypeLaws.{begins_length, word_of, behind_type, type_terminal, type_spelled, type_sound, type_again}
 use Rattle.f95_statements.proofs.DeclarationLaws.{in_order, behind_declared, declared_type, declaration_sound, declaration_again}
 
 -- ---- dummies
@@ -269,7 +220,7 @@ run_next (Some p) done t ts is more =
       newest = m.newest;
       spelled = append_assoc (prefix_text p) (prefixes_text m.front) (prefixes_of (p ∷ done) ts).1
           ∙ ap (λ u. prefix_text p ++ u) m.spelled ∙ ap (λ u. u ++ ts) s.0;
-      kept = joined (well_prefix p) (all (map well_prefix m.front)) s.1 m.kept;
+      kept = and_from (well_prefix p) (all (map well_prefix m.front)) s.1 m.kept;
     }
 
 prefix_run : (done : List Prefix) (ts : Text) → RunTo done ts (prefixes_of done ts)
@@ -285,8 +236,8 @@ all_joined : (ps qs : List Prefix) → all (map well_prefix ps) ≡ true → all
     all (map well_prefix (ps ++ qs)) ≡ true
 all_joined [] qs h g = g
 all_joined (p ∷ ps) qs h g =
-    let ws = both (well_prefix p) (all (map well_prefix ps)) h in
-    joined (well_prefix p) (all (map well_prefix (ps ++ qs))) ws.0 (all_joined ps qs ws.1 g)
+    let ws = and_parts (well_prefix p) (all (map well_prefix ps)) h in
+    and_from (well_prefix p) (all (map well_prefix (ps ++ qs))) ws.0 (all_joined ps qs ws.1 g)
 
 -- ---- what is read
 
@@ -310,7 +261,7 @@ begun_sound ps w ts q a h = chained (λ h. kept (procedure (reverse (onto ps [])
     let k = kept_sound (procedure (reverse (onto ps [])) begins) q hk in
     subst (ProcedureIn (prefixes_text ps ++ unit_word w ∷ ts)) (ap (λ ps. procedure ps begins) (sym (in_order ps)) ∙ k.0) record {
       spelled = ap (λ t. prefixes_text ps ++ t) (heading_sound w ts begins hh);
-      kept = joined (all (map well_prefix ps)) (keeps ps begins) a (ap (λ ps. keeps ps begins) (sym (in_order ps)) ∙ k.1);
+      kept = and_from (all (map well_prefix ps)) (keeps ps begins) a (ap (λ ps. keeps ps begins) (sym (in_order ps)) ∙ k.1);
     })
 
 headed_sound : (ps : List Prefix) (p : Keyword × Text) (q : Procedure) → all (map well_prefix ps) ≡ true →
@@ -341,7 +292,7 @@ typed_sound ps p q a w h =
     ∙ ap (λ (t : Text). prefixes_text ps ++ t) (append_assoc (type_text p.0) (prefixes_text r.front) found.1
     ∙ ap (λ (t : Text). type_text p.0 ++ t) r.spelled) in
     subst (λ t. ProcedureIn t q) text (behind_prefixes (ps ++ front) found.1 q
-    (all_joined ps front a (joined (well_type p.0) (all (map well_prefix r.front)) w r.kept))
+    (all_joined ps front a (and_from (well_type p.0) (all (map well_prefix r.front)) w r.kept))
     (ap (λ d. procedure_behind (d, found.1)) (sym newest) ∙ h))
 
 keyed_sound : (ps : List Prefix) (p : Keyword × Text) (q : Procedure) → all (map well_prefix ps) ≡ true →
@@ -399,10 +350,6 @@ keyword_first (prefix.Pure ∷ ps) h u = refl
 keyword_first (prefix.Elemental ∷ ps) h u = refl
 keyword_first (prefix.«Type» t ∷ ps) h u = absurd (cc)
 
-not_true : (b : Bool) → not b ≡ true → b ≡ false
-not_true true h = absurd (cc)
-not_true false h = refl
-
 -- a type is parted from the prefixes behind it
 type_first : (t : TypeSpec) (ps : List Prefix) (h : Heading) →
     prefixes_text (prefix.«Type» t ∷ ps) ++ heading_text h ≡
@@ -414,17 +361,17 @@ from_again : (done ps : List Prefix) (h : Heading) → all (map well_prefix ps) 
     procedure_from (prefixes_of done (prefixes_text ps ++ heading_text h)) ≡ kept (procedure (reverse (onto ps done)) h)
 from_again done [] h a d = ap procedure_from (no_prefix done h) ∙ from_heading done h ∙ heading_again done h
 from_again done (prefix.Recursive ∷ ps) h a d =
-    from_again (prefix.Recursive ∷ done) ps h a (both (not (is_among (map prefix_kind ps) 0)) (distinct (map prefix_kind ps)) d).1
+    from_again (prefix.Recursive ∷ done) ps h a (and_parts (not (is_among (map prefix_kind ps) 0)) (distinct (map prefix_kind ps)) d).1
 from_again done (prefix.Pure ∷ ps) h a d =
-    from_again (prefix.Pure ∷ done) ps h a (both (not (is_among (map prefix_kind ps) 1)) (distinct (map prefix_kind ps)) d).1
+    from_again (prefix.Pure ∷ done) ps h a (and_parts (not (is_among (map prefix_kind ps) 1)) (distinct (map prefix_kind ps)) d).1
 from_again done (prefix.Elemental ∷ ps) h a d =
-    from_again (prefix.Elemental ∷ done) ps h a (both (not (is_among (map prefix_kind ps) 2)) (distinct (map prefix_kind ps)) d).1
+    from_again (prefix.Elemental ∷ done) ps h a (and_parts (not (is_among (map prefix_kind ps) 2)) (distinct (map prefix_kind ps)) d).1
 from_again done (prefix.«Type» t ∷ ps) h a d =
-    let u = not_true (is_among (map prefix_kind ps) 3)
-    (both (not (is_among (map prefix_kind ps) 3)) (distinct (map prefix_kind ps)) d).0 in
+    let u = not-true (is_among (map prefix_kind ps) 3)
+    (and_parts (not (is_among (map prefix_kind ps) 3)) (distinct (map prefix_kind ps)) d).0 in
     ap (λ t. procedure_from (prefixes_of done t)) (type_first t ps h)
     ∙ ap (option_and_then (typed_procedure done))
-    (type_again t (prefixes_text ps ++ heading_text h) (both (well_type t) (all (map well_prefix ps)) a).0 (no_length ps h u))
+    (type_again t (prefixes_text ps ++ heading_text h) (and_parts (well_type t) (all (map well_prefix ps)) a).0 (no_length ps h u))
     ∙ untyped_again (prefix.«Type» t ∷ done) ps h u
 
 kept_again : (p : Procedure) → keeps p.prefixes p.heading ≡ true → kept p ≡ Some p
@@ -432,9 +379,9 @@ kept_again p h = ap (λ b. if b then Some p else None) h
 
 pub procedure_again : (q : Procedure) → well_procedure q ≡ true → procedure_of (procedure_text q) ≡ Some q
 procedure_again q w =
-    let ws = both (all (map well_prefix q.prefixes)) (keeps q.prefixes q.heading) w in
+    let ws = and_parts (all (map well_prefix q.prefixes)) (keeps q.prefixes q.heading) w in
     from_again [] q.prefixes q.heading ws.0
-    (both (distinct (map prefix_kind q.prefixes)) (well_heading (map prefix_kind q.prefixes) q.heading) ws.1).0
+    (and_parts (distinct (map prefix_kind q.prefixes)) (well_heading (map prefix_kind q.prefixes) q.heading) ws.1).0
     ∙ ap (λ ps. kept (procedure ps q.heading)) (in_order q.prefixes) ∙ kept_again q ws.1
 
 -- ---- what begins with the word of a type
@@ -513,10 +460,10 @@ pub procedure_typed : (t : TypeSpec) (ps : List Prefix) (h : Heading) → well_p
 procedure_typed t ps h w =
     let all_of = prefix.«Type» t ∷ ps in
     let kinds = map prefix_kind ps in
-    let ws = both (all (map well_prefix all_of)) (keeps all_of h) w in
-    let wt = both (well_type t) (all (map well_prefix ps)) ws.0 in
-    let ds = both (distinct (map prefix_kind all_of)) (well_heading (map prefix_kind all_of) h) ws.1 in
-    let u = not_true (is_among kinds 3) (both (not (is_among kinds 3)) (distinct kinds) ds.0).0 in
+    let ws = and_parts (all (map well_prefix all_of)) (keeps all_of h) w in
+    let wt = and_parts (well_type t) (all (map well_prefix ps)) ws.0 in
+    let ds = and_parts (distinct (map prefix_kind all_of)) (well_heading (map prefix_kind all_of) h) ws.1 in
+    let u = not-true (is_among kinds 3) (and_parts (not (is_among kinds 3)) (distinct kinds) ds.0).0 in
     ap (option_and_then typed_form) (type_again t (behind_prefix ps h) wt.0 (no_length ps h u))
     ∙ typed_by_keyword (t, behind_prefix ps h) true (keyword_first ps h u)
     ∙ ap (option_map (λ q. of.Unit (unit_of.Procedure q)))

@@ -1,28 +1,8 @@
 -- Types with their lengths: what is read is spelled as the terminals, and what is spelled is read.
-use Rattle.std.proofs.Common.{
-  ◌≡◌,
-  ℕ,
-  Bool,
-  true,
-  false,
-  ◌&&◌,
-  ◌||◌,
-  List,
-  [],
-  ◌∷◌,
-  ◌++◌,
-  Option,
-  Some,
-  None,
-  sym,
-  ◌∙◌,
-  ap,
-  subst,
-  refl,
-  append_assoc,
-  codes,
-}
+use Rattle.std.proofs.Common.{◌≡◌, Bool, true, false, ◌||◌, [], ◌∷◌, ◌++◌, Option, Some, None, sym, ◌∙◌, ap, subst, refl, append_assoc, codes}
 use Rattle.std.specs.Prelude.{ℤ, option_map, option_and_then, if◌then◌else◌}
+use Rattle.a95_base.proofs.Tests.{by_test}
+use Rattle.f95_statements.proofs.ConditionLaws.{only_sound}
 use Rattle.f95_tree.specs.declared.expression.Expression.{Expression, roll-Expression, out-Expression}
 use Rattle.f95_tree.specs.declared.expression.Expression.TheVariants as e
 use Rattle.f95_tree.specs.declared.expression.Reference.{roll-Reference, out-Reference}
@@ -42,16 +22,15 @@ use Rattle.f95_tree.specs.declared.declaration.Length.TheVariants as length_of
 use Rattle.f95_tree.specs.declared.declaration.TypeSpec.{TypeSpec}
 use Rattle.f95_tree.specs.declared.declaration.TypeSpec.TheVariants as type_spec
 use Rattle.f95_tree.specs.declared.action.Argument.{Argument}
-use Rattle.f95_tree.specs.Spelling.{Text, punctuated, in_brackets, expression}
+use Rattle.f95_tree.specs.Spelling.{Text, punctuated, expression}
 use Rattle.f95_tree.specs.Grades.{well}
-use Rattle.f95_tree.specs.Forms.{Word, star, argument_keyword, length_keyword, length_text, type_text}
+use Rattle.f95_tree.specs.Forms.{Word, star, length_keyword, length_text, type_text}
 use Rattle.f95_tree.specs.WellFormed.{well_length, well_type}
 use Rattle.f95_expressions.specs.declared.pending.Field.{Field}
 use Rattle.f95_expressions.specs.declared.pending.Spread.TheVariants as spread
 use Rattle.f95_expressions.specs.declared.pending.Machine.TheVariants as machine
-use Rattle.f95_expressions.specs.Fields.{field_text, fields_text, well_field, well_fields}
+use Rattle.f95_expressions.specs.Fields.{field_text, fields_text, well_fields}
 use Rattle.f95_expressions.specs.Machine.{whole, field, bracket, closed_found, run}
-use Rattle.f95_expressions.proofs.Lists.{by_test}
 use Rattle.f95_expressions.proofs.Fields.{expression_field}
 use Rattle.f95_expressions.proofs.Read.{mapped, chained, whole_sound}
 use Rattle.f95_expressions.proofs.Found.{bracket_again, bracket_sound}
@@ -87,11 +66,6 @@ pub record Leads {A : Type 0} (spell : A → Text) (w : A → Bool) (ts : Text) 
 pub none_where : {A : Type 0} (o : Option A) → ((a : A) → o ≡ Some a → ⊥) → o ≡ None
 none_where None never = refl
 none_where (Some a) never = absurd (never a refl)
-
-one_field : (fs : List Field) (f : Field) → only fs ≡ Some f → fs ≡ f ∷ []
-one_field [] f h = absurd (cc)
-one_field (g ∷ []) f h = let q : g ≡ f = cc in ap (λ f. f ∷ []) q
-one_field (g ∷ more ∷ fs) f h = absurd (cc)
 
 pub same_word : (n w : Word) → is w n ≡ true → n ≡ w
 same_word n w h = let q = word_sound w (terminal.Name n ∷ []) [] (ap (λ b. if b then Some [] else None) h) in cc
@@ -160,7 +134,7 @@ given_in_sound inside p h = chained given_in (bracket inside) p h (λ found hf h
     chained given_length (only found.0) l hl (λ f ho hg.
     given_sound f l hg (λ keyed x field_is length_is.
     let s = bracket_sound inside found.0 found.1 hf in
-    let one = one_field found.0 f ho ∙ ap (λ f. f ∷ []) field_is in
+    let one = only_sound found.0 f ho ∙ ap (λ f. f ∷ []) field_is in
     subst (LengthIn (punctuated mark.Open inside)) (ap (λ l. (l, found.1)) length_is ∙ is) record {
       spelled = ap (punctuated mark.Open) (append_assoc (length_keyword keyed ++ expression x) (punctuated mark.Close []) found.1
           ∙ ap (λ t. t ++ punctuated mark.Close found.1) (sym (given_text keyed x) ∙ sym (ap fields_text one)) ∙ s.0);

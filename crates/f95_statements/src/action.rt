@@ -10,7 +10,8 @@ ghost use Rattle.f95_statements.specs.Actions.{read_of, read_unit, stop_code, st
 ghost use Rattle.f95_statements.specs.Actions.{action_of};
 
 use a95_base::{SharedBytes, Stack};
-use f95_expressions::{Closed, Field, bracket, expression_of, row, within};
+use f95_expressions::{Field, expression_of, within};
+use f95_fields::{Closed, bracket, row};
 use f95_parts::{
     Part, assignment_of, behind, behind_keyword, behind_name, behind_star, collected, header_of,
     is_nil, parted,

@@ -11,7 +11,8 @@ ghost use Rattle.f95_statements.specs.Declarations.{attributes_of, entities_of, 
 
 use crate::action::only;
 use a95_base::Stack;
-use f95_expressions::{Closed, Field, bracket, items_of, row, whole};
+use f95_expressions::{Field, items_of, whole};
+use f95_fields::{Closed, bracket, row};
 use f95_parts::{
     Named, behind, behind_name, behind_star, behind_word, collected, dims_of, is, parted,
     spread_expression,

@@ -13,7 +13,8 @@ ghost use Rattle.f95_statements.specs.Declarations.{procedure_keyed, procedure_f
 use crate::action::whole_bracket;
 use crate::declaration::{Typed, declaration_of, type_of};
 use a95_base::{SharedBytes, Stack};
-use f95_expressions::{Closed, Field, bracket, within};
+use f95_expressions::{Field, within};
+use f95_fields::{Closed, bracket};
 use f95_parts::{
     Keyed, Named, behind, behind_keyword, behind_name, behind_word, collected, is_nil, parted,
 };

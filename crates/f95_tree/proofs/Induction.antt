@@ -1,6 +1,7 @@
 -- Induction over expressions and what stands in them: what holds of each kind of node where it holds of all inside it.
-use Rattle.std.proofs.Common.{List, [], ◌∷◌, map, Option, Some, None, sym, subst}
+use Rattle.std.proofs.Common.{List, map, Option, Some, None, sym, subst}
 use Rattle.a95_base.specs.Lists.{Every}
+use Rattle.a95_base.proofs.Lists.{every_inside}
 use Rattle.f95_tree.specs.declared.expression.Expression.{Expression, roll-Expression}
 use Rattle.f95_tree.specs.declared.expression.Expression.TheVariants as e
 use Rattle.f95_tree.specs.declared.expression.Expression.TheOpen.{Expression-F, Item-F, Reference-F, Value-F}
@@ -40,10 +41,6 @@ pub record ByNode (P : Expression → Type 0) (Q : Item → Type 0) (R : Referen
   pub on_one : (x : Expression) → P x → S (v.One x)
   pub on_implied : (vs : List Value) (n : Word) (a b : Expression) (c : Option Expression) → Every S vs → P a → P b → Maybe P c →
       S (v.ImpliedDo vs n a b c)
-
-every_inside : {A : Type 0} (S : A → Type 0) (xs : List ((x : A) × S x)) → Every S (map (λ (p : (x : A) × S x). p.0) xs)
-every_inside S [] = tt
-every_inside S (p ∷ xs) = (p.1, every_inside S xs)
 
 abbrev firsts : {A : Type 0} (S : A → Type 0) → List ((x : A) × S x) → List A
 firsts {A} S xs = map (λ (p : (x : A) × S x). p.0) xs

@@ -3,7 +3,9 @@ use Rattle.std.proofs.Common.{◌≡◌, ℕ, suc, ◌+◌, ◌<◌, ◌≤◌, 
 use Rattle.std.proofs.Common.{subst, arith, pos, length, nat_le, nat_lt}
 use Rattle.std.specs.Prelude.{map, if◌then◌else◌}
 use Rattle.std.specs.List.{list_all, flat_map, AllByRecursion}
-use Rattle.std.proofs.lemmas.Bool.{leb-true}
+use Rattle.std.proofs.lemmas.Bool.{leb-true, and_parts, or_parts}
+use Rattle.a95_base.proofs.Lists.{list_all_parts}
+use Rattle.loop_tree.proofs.Bodies.{fit_both}
 use Rattle.rank_one.specs.declared.unit.Unit.{Unit}
 use Rattle.rank_one.specs.declared.unit.Array.{Array}
 use Rattle.rank_one.specs.declared.unit.Statement.{Statement}
@@ -21,18 +23,17 @@ use Rattle.loop_tree.specs.declared.row.IntValue.TheVariants as value
 use Rattle.loop_tree.specs.declared.row.Row.{Row}
 use Rattle.loop_tree.specs.declared.tree.CodeLine.{CodeLine}
 use Rattle.loop_tree.specs.declared.tree.CodeLine.TheVariants as code
-use Rattle.loop_tree.specs.declared.tree.Stmt.{Stmt, roll-Stmt}
+use Rattle.loop_tree.specs.declared.tree.Stmt.{Stmt}
 use Rattle.loop_tree.specs.declared.tree.Stmt.TheVariants as stmt
 use Rattle.loop_tree.specs.declared.tree.Stmt.TheOpen as layer
-use Rattle.loop_tree.specs.declared.tree.Stmt.TheFolds.{fold-roll-Stmt}
 use Rattle.loop_tree.specs.Lines.{flat, flats}
-use Rattle.loop_tree.specs.Program.{FitsAtom, FitsRow, FitsLine, leaves_row, leaves, leaves_at, some_leaves, depth, depth_at}
+use Rattle.loop_tree.specs.Program.{FitsAtom, FitsRow, FitsLine, leaves_row, leaves, some_leaves, depth}
 use Rattle.loop_tree.specs.Program.{depths, IsProgram}
 use Rattle.f95a_core.specs.Lowered.{set_row, load, factor_atom, times, product_code, product_atom, term_code, term_atom, plus}
 use Rattle.f95a_core.specs.Lowered.{addends_code, addends_atom, sum_code, sum_atom, is_factor, value_code, value_atom, at_line}
 use Rattle.f95a_core.specs.Lowered.{show, extent_of, assignment_code, action_code, statements_code, declared_code, program_of}
-use Rattle.loop_tree.proofs.Trees.{flat-Row, flat-ForUp}
-use Rattle.f95a_core.proofs.Statements.{both, all_front, small_extent, extent_is, extent_there}
+use Rattle.loop_tree.proofs.Trees.{flat-Row, flat-ForUp, leaves-Row, depth-Row, leaves-ForUp, depth-ForUp}
+use Rattle.f95a_core.proofs.Statements.{small_extent, extent_is, extent_there}
 
 -- ---- what each statement keeps, and so what a list of them does
 
@@ -42,26 +43,6 @@ pub record Fine (n : ℕ) (body : List Stmt) : Type 0 where
   pub loops : some_leaves body ≡ false
   pub braces : depths body ≤ n
 
-all_both : (xs ys : List CodeLine) → AllByRecursion FitsLine xs → AllByRecursion FitsLine ys → AllByRecursion FitsLine (xs ++ ys)
-all_both [] ys h k = k
-all_both (x ∷ xs) ys h k = (h.0, all_both xs ys h.1 k)
-
-leaves_is_row : (r : Row) → leaves (stmt.Row r) ≡ leaves_row r
-unfolding roll-Stmt denote.Hole.Carrier.roll
-leaves_is_row r = fold-roll-Stmt Bool leaves_at (layer.Row r)
-
-depth_is_row : (r : Row) → depth (stmt.Row r) ≡ 0
-unfolding roll-Stmt denote.Hole.Carrier.roll
-depth_is_row r = fold-roll-Stmt ℕ depth_at (layer.Row r)
-
-leaves_is_up : (k : ℕ) (bound : Atom) (body : List Stmt) → leaves (stmt.ForUp k bound body) ≡ false
-unfolding roll-Stmt denote.Hole.Carrier.roll
-leaves_is_up k bound body = fold-roll-Stmt Bool leaves_at (layer.ForUp k bound body)
-
-depth_is_up : (k : ℕ) (bound : Atom) (body : List Stmt) → depth (stmt.ForUp k bound body) ≡ depths body + 1
-unfolding roll-Stmt denote.Hole.Carrier.roll
-depth_is_up k bound body = fold-roll-Stmt ℕ depth_at (layer.ForUp k bound body)
-
 fine_none : (n : ℕ) → Fine n []
 fine_none n = record { numbers = tt; loops = refl; braces = omega arith }
 
@@ -69,29 +50,25 @@ fine_none n = record { numbers = tt; loops = refl; braces = omega arith }
 fine_front : (n : ℕ) (s : Stmt) (more : List Stmt) → AllByRecursion FitsLine (flat s) → leaves s ≡ false → depth s ≤ n →
     Fine n more → Fine n (s ∷ more)
 fine_front n s more fits stays shallow f = record {
-  numbers = all_both (flat s) (flats more) fits f.numbers;
+  numbers = fit_both (flat s) (flats more) fits f.numbers;
   loops = ap (λ b. b || some_leaves more) stays ∙ f.loops;
   braces = omega (arith, f.braces);
 }
 
 fine_row : (n : ℕ) (r : Row) (more : List Stmt) → FitsRow r → leaves_row r ≡ false → Fine n more → Fine n (stmt.Row r ∷ more)
 fine_row n r more fits stays f =
-    let level : depth (stmt.Row r) ≤ n = omega (arith, depth_is_row r) in
+    let level : depth (stmt.Row r) ≤ n = omega (arith, depth-Row r) in
     fine_front n (stmt.Row r) more (subst (λ (ls : List CodeLine). AllByRecursion FitsLine ls) (sym (flat-Row r)) (fits, tt))
-    (leaves_is_row r ∙ stays) level f
+    (leaves-Row r ∙ stays) level f
 
 fine_up : (n k : ℕ) (bound : Atom) (body more : List Stmt) → k < 2 ^ 32 → FitsAtom bound → Fine n body → Fine (n + 1) more →
     Fine (n + 1) (stmt.ForUp k bound body ∷ more)
 fine_up n k bound body more small fits inner f =
-    let level : depth (stmt.ForUp k bound body) ≤ n + 1 = omega (arith, depth_is_up k bound body, inner.braces) in
+    let level : depth (stmt.ForUp k bound body) ≤ n + 1 = omega (arith, depth-ForUp k bound body, inner.braces) in
     fine_front (n + 1) (stmt.ForUp k bound body) more
     (subst (λ (ls : List CodeLine). AllByRecursion FitsLine ls) (sym (flat-ForUp k bound body))
-    ((small, fits), all_both (flats body) (code.Close ∷ []) inner.numbers (tt, tt)))
-    (leaves_is_up k bound body) level f
-
-or_false : (a b : Bool) → (a || b) ≡ false → (a ≡ false) × (b ≡ false)
-or_false true b h = cc
-or_false false b h = (refl, h)
+    ((small, fits), fit_both (flats body) (code.Close ∷ []) inner.numbers (tt, tt)))
+    (leaves-ForUp k bound body) level f
 
 all_parts : (xs ys : List CodeLine) → AllByRecursion FitsLine (xs ++ ys) → AllByRecursion FitsLine xs × AllByRecursion FitsLine ys
 all_parts [] ys h = (tt, h)
@@ -101,7 +78,7 @@ fine_both : (n : ℕ) (a b : List Stmt) → Fine n a → Fine n b → Fine n (a 
 fine_both n [] b f g = g
 fine_both n (s ∷ a) b f g =
     let numbers = all_parts (flat s) (flats a) f.numbers in
-    let loops = or_false (leaves s) (some_leaves a) f.loops in
+    let loops = or_parts (leaves s) (some_leaves a) f.loops in
     let front : depth s ≤ n = omega (arith, f.braces) in
     fine_front n s (a ++ b) numbers.0 loops.0 front
     (fine_both n a b (record { numbers = numbers.1; loops = loops.1; braces = omega (arith, f.braces) }) g)
@@ -124,7 +101,7 @@ module _ (decls : List Array) (count : length decls < 2 ^ 32) (n : ℕ) where
       ≡ true → Fine 0 (product_code m left fs)
   fine_product m small left fits [] h = fine_none 0
   fine_product m small left fits (f ∷ fs) h =
-      let parts = both (is_typed_factor decls n f) (list_all (is_typed_factor decls n) fs) h in
+      let parts = and_parts (is_typed_factor decls n f) (list_all (is_typed_factor decls n) fs) h in
       fine_both 0 (times m left f) (product_code m (atom.Int m) fs)
       (fine_both 0 (load 2 f) _ (fine_load 2 (omega arith) f parts.0)
       (fine_row 0 _ _ (small, (fits, atom_fits 2 (omega arith) f parts.0)) refl (fine_none 0)))
@@ -137,14 +114,14 @@ module _ (decls : List Array) (count : length decls < 2 ^ 32) (n : ℕ) where
   fine_term : (m : ℕ) → m < 2 ^ 32 → (t : Term) → list_all (is_typed_factor decls n) (factors_of_term t) ≡ true →
       Fine 0 (term_code m t)
   fine_term m small t h =
-      let parts = both (is_typed_factor decls n t.first) (list_all (is_typed_factor decls n) t.rest) h in
+      let parts = and_parts (is_typed_factor decls n t.first) (list_all (is_typed_factor decls n) t.rest) h in
       fine_both 0 (load m t.first) _ (fine_load m small t.first parts.0)
       (fine_product m small (factor_atom m t.first) (atom_fits m small t.first parts.0) t.rest parts.1)
 
   term_fits : (m : ℕ) → m < 2 ^ 32 → (t : Term) → list_all (is_typed_factor decls n) (factors_of_term t) ≡ true →
       FitsAtom (term_atom m t)
   term_fits m small t h =
-      let parts = both (is_typed_factor decls n t.first) (list_all (is_typed_factor decls n) t.rest) h in
+      let parts = and_parts (is_typed_factor decls n t.first) (list_all (is_typed_factor decls n) t.rest) h in
       product_fits m small (factor_atom m t.first) (atom_fits m small t.first parts.0) t.rest
 
   fine_addends : (left : Atom) → FitsAtom left → (more : List Addend) →
@@ -152,7 +129,7 @@ module _ (decls : List Array) (count : length decls < 2 ^ 32) (n : ℕ) where
       Fine 0 (addends_code left more)
   fine_addends left fits [] h = fine_none 0
   fine_addends left fits (a ∷ more) h =
-      let parts = all_front (is_typed_factor decls n) (factors_of_term a.term)
+      let parts = list_all_parts (is_typed_factor decls n) (factors_of_term a.term)
       (flat_map (λ (a : Addend). factors_of_term a.term) more) h in
       fine_both 0 (plus left a) (addends_code (atom.Int 0) more)
       (fine_both 0 (term_code 1 a.term) _ (fine_term 1 (omega arith) a.term parts.0)
@@ -166,7 +143,7 @@ module _ (decls : List Array) (count : length decls < 2 ^ 32) (n : ℕ) where
   module _ (s : Sum) (h : list_all (is_typed_factor decls n) (factors_of s) ≡ true) where
     abbrev parts : (list_all (is_typed_factor decls n) (factors_of_term s.first) ≡ true)
         × (list_all (is_typed_factor decls n) (flat_map (λ (a : Addend). factors_of_term a.term) s.rest) ≡ true)
-    parts = all_front (is_typed_factor decls n) (factors_of_term s.first) (flat_map (λ (a : Addend). factors_of_term a.term) s.rest)
+    parts = list_all_parts (is_typed_factor decls n) (factors_of_term s.first) (flat_map (λ (a : Addend). factors_of_term a.term) s.rest)
         h
 
     sum_fits : FitsAtom (sum_atom s)
@@ -222,7 +199,7 @@ module _ (decls : List Array) (count : length decls < 2 ^ 32)
       Fine 1 (map (λ place. show line (extent_of decls place) place) ps)
   fine_shows line [] fits h = fine_none 1
   fine_shows line (p ∷ ps) fits h =
-      let parts = both (nat_lt p (length decls)) (list_all (λ q. nat_lt q (length decls)) ps) h in
+      let parts = and_parts (nat_lt p (length decls)) (list_all (λ q. nat_lt q (length decls)) ps) h in
       let below : p < length decls = leb-true (suc p) (length decls) parts.0 in
       let place : p < 2 ^ 32 = omega arith in
       fine_loop line (extent_of decls p) _ _ fits (small_extent decls p small)
@@ -231,11 +208,11 @@ module _ (decls : List Array) (count : length decls < 2 ^ 32)
 
   fine_action : (line : ℕ) (a : Action) → line < 2 ^ 32 → is_typed_action decls a ≡ true → Fine 1 (action_code decls line a)
   fine_action line (Assign t sum) fits typed =
-      let parts = both (nat_lt t (length decls)) (list_all (is_typed_factor decls (extent_at decls t)) (factors_of sum)) typed in
+      let parts = and_parts (nat_lt t (length decls)) (list_all (is_typed_factor decls (extent_at decls t)) (factors_of sum)) typed in
       fine_assignment line t sum fits (leb-true (suc t) (length decls) parts.0)
       (subst (λ m. list_all (is_typed_factor decls m) (factors_of sum) ≡ true) (extent_is decls t) parts.1)
   fine_action line (Print places) fits typed =
-      let parts = both (nat_lt 0 (length places)) (list_all (λ p. nat_lt p (length decls)) places) typed in
+      let parts = and_parts (nat_lt 0 (length places)) (list_all (λ p. nat_lt p (length decls)) places) typed in
       fine_row 1 _ _ fits refl
       (fine_both 1 (map (λ place. show line (extent_of decls place) place) places) _ (fine_shows line places fits parts.1)
       (fine_row 1 _ _ tt refl (fine_none 1)))
@@ -244,8 +221,8 @@ module _ (decls : List Array) (count : length decls < 2 ^ 32)
       list_all (λ (s : Statement). is_typed_action decls s.action) ss ≡ true → Fine 1 (statements_code decls ss)
   fine_statements [] lines typed = fine_none 1
   fine_statements (s ∷ ss) lines typed =
-      let line = both (nat_lt s.line (2 ^ 32)) (list_all (λ (x : Statement). nat_lt x.line (2 ^ 32)) ss) lines in
-      let type = both (is_typed_action decls s.action) (list_all (λ (x : Statement). is_typed_action decls x.action) ss) typed in
+      let line = and_parts (nat_lt s.line (2 ^ 32)) (list_all (λ (x : Statement). nat_lt x.line (2 ^ 32)) ss) lines in
+      let type = and_parts (is_typed_action decls s.action) (list_all (λ (x : Statement). is_typed_action decls x.action) ss) typed in
       fine_both 1 (action_code decls s.line s.action) (statements_code decls ss)
       (fine_action s.line s.action (leb-true (suc s.line) (2 ^ 32) line.0) type.0) (fine_statements ss line.1 type.1)
 
@@ -254,8 +231,8 @@ fine_declared : (number : ℕ) (decls : List Array) → number + length decls < 
     → list_all (λ (a : Array). nat_lt a.line (2 ^ 32)) decls ≡ true → Fine 1 (declared_code number decls)
 fine_declared number [] count small lines = fine_none 1
 fine_declared number (a ∷ decls) count small lines =
-    let extent = both (nat_le a.extent (2 ^ 24)) (list_all (λ (b : Array). nat_le b.extent (2 ^ 24)) decls) small in
-    let line = both (nat_lt a.line (2 ^ 32)) (list_all (λ (b : Array). nat_lt b.line (2 ^ 32)) decls) lines in
+    let extent = and_parts (nat_le a.extent (2 ^ 24)) (list_all (λ (b : Array). nat_le b.extent (2 ^ 24)) decls) small in
+    let line = and_parts (nat_lt a.line (2 ^ 32)) (list_all (λ (b : Array). nat_lt b.line (2 ^ 32)) decls) lines in
     let here : number < 2 ^ 32 = omega arith in
     let size : a.extent ≤ 2 ^ 24 = leb-true a.extent (2 ^ 24) extent.0 in
     fine_row 1 _ _ (leb-true (suc a.line) (2 ^ 32) line.0) refl

@@ -1,14 +1,15 @@
 -- What the lines of a list of statements do is what the statements mean.
-use Rattle.std.proofs.Common.{◌≡◌, ◌≢◌, ◌⊎◌, inl, inr, ℕ, zero, suc, ◌+◌, ◌<◌, ◌≤◌, ◌^◌, Bool, true, false, ◌&&◌, List, [], ◌∷◌}
+use Rattle.std.proofs.Common.{◌≡◌, ◌≢◌, ◌⊎◌, inl, inr, ℕ, zero, suc, ◌+◌, ◌<◌, ◌≤◌, ◌^◌, true, List, [], ◌∷◌}
 use Rattle.std.proofs.Common.{◌++◌, refl, ap, ◌∙◌, sym, subst, arith, ℤ, pos, length, nat_le, nat_lt}
 use Rattle.std.specs.Prelude.{set, fold}
 use Rattle.std.specs.List.{flat_map, list_all}
 use Rattle.std.proofs.lemmas.List.{get_or-set_same, get_or-set_other, get_or_past}
 use Rattle.std.proofs.Math.ListN.{length-set}
-use Rattle.std.proofs.lemmas.Bool.{leb-true}
+use Rattle.std.proofs.lemmas.Bool.{leb-true, and_parts}
 use Rattle.std.proofs.lemmas.Bool.Decides.{nat_tests}
 use Rattle.a95_base.specs.Lists.{Every}
 use Rattle.a95_base.proofs.Wrapping.{wrapped_small}
+use Rattle.a95_base.proofs.Lists.{list_all_parts}
 use Rattle.rank_one.specs.declared.unit.Array.{Array}
 use Rattle.rank_one.specs.declared.unit.Statement.{Statement}
 use Rattle.rank_one.specs.declared.unit.Action.{Action}
@@ -37,19 +38,6 @@ use Rattle.f95a_core.proofs.Actions.{IsThere, shown_cost, assignment_does, print
 
 -- ---- what a typed statement gives
 
-pub both : (a b : Bool) → (a && b) ≡ true → (a ≡ true) × (b ≡ true)
-both true true h = (refl, refl)
-both true false h = cc
-both false b h = cc
-
-pub all_front : {A : Type 0} (test : A → Bool) (xs ys : List A) → list_all test (xs ++ ys) ≡ true → (list_all test xs ≡ true)
-    × (list_all test ys ≡ true)
-all_front test [] ys h = (refl, h)
-all_front test (x ∷ xs) ys h =
-    let parts = both (test x) (list_all test (xs ++ ys)) h in
-    let more = all_front test xs ys parts.1 in
-    (ap (λ b. b && list_all test xs) parts.0 ∙ more.0, more.1)
-
 pub extent_is : (decls : List Array) (p : ℕ) → extent_at decls p ≡ extent_of decls p
 extent_is [] p = refl
 extent_is (a ∷ decls) zero = refl
@@ -65,10 +53,10 @@ pub small_extent : (decls : List Array) (p : ℕ) → list_all (λ (a : Array). 
     extent_of decls p ≤ 2 ^ 24
 small_extent [] p h = omega arith
 small_extent (a ∷ decls) zero h = let front =
-    (both (nat_le a.extent (2 ^ 24)) (list_all (λ (a : Array). nat_le a.extent (2 ^ 24)) decls) h).0 in
+    (and_parts (nat_le a.extent (2 ^ 24)) (list_all (λ (a : Array). nat_le a.extent (2 ^ 24)) decls) h).0 in
     leb-true a.extent (2 ^ 24) front
 small_extent (a ∷ decls) (suc p) h =
-    small_extent decls p (both (nat_le a.extent (2 ^ 24)) (list_all (λ (a : Array). nat_le a.extent (2 ^ 24)) decls) h).1
+    small_extent decls p (and_parts (nat_le a.extent (2 ^ 24)) (list_all (λ (a : Array). nat_le a.extent (2 ^ 24)) decls) h).1
 
 -- the arrays of a state are those of the declarations
 pub record Stands (decls : List Array) (arrays : List (List ℤ)) : Type 0 where
@@ -85,24 +73,24 @@ module _ (decls : List Array) (arrays : List (List ℤ)) (stands : Stands decls 
 
   factors_fit : (fs : List Factor) → list_all (is_typed_factor decls n) fs ≡ true → Every (FactorFits arrays n) fs
   factors_fit [] h = tt
-  factors_fit (f ∷ fs) h = let parts = both (is_typed_factor decls n f) (list_all (is_typed_factor decls n) fs) h in
+  factors_fit (f ∷ fs) h = let parts = and_parts (is_typed_factor decls n f) (list_all (is_typed_factor decls n) fs) h in
       (factor_fits f parts.0, factors_fit fs parts.1)
 
   term_fits : (t : Term) → list_all (is_typed_factor decls n) (factors_of_term t) ≡ true → TermFits arrays n t
-  term_fits t h = let parts = both (is_typed_factor decls n t.first) (list_all (is_typed_factor decls n) t.rest) h in
+  term_fits t h = let parts = and_parts (is_typed_factor decls n t.first) (list_all (is_typed_factor decls n) t.rest) h in
       record { first = factor_fits t.first parts.0; rest = factors_fit t.rest parts.1 }
 
   addends_fit : (more : List Addend) → list_all (is_typed_factor decls n) (flat_map (λ (a : Addend). factors_of_term a.term) more)
       ≡ true → Every (λ (a : Addend). TermFits arrays n a.term) more
   addends_fit [] h = tt
   addends_fit (a ∷ more) h =
-      let parts = all_front (is_typed_factor decls n) (factors_of_term a.term)
+      let parts = list_all_parts (is_typed_factor decls n) (factors_of_term a.term)
       (flat_map (λ (a : Addend). factors_of_term a.term) more) h in
       (term_fits a.term parts.0, addends_fit more parts.1)
 
   sum_fits : (s : Sum) → list_all (is_typed_factor decls n) (factors_of s) ≡ true → SumFits arrays n s
   sum_fits s h =
-      let parts = all_front (is_typed_factor decls n) (factors_of_term s.first)
+      let parts = list_all_parts (is_typed_factor decls n) (factors_of_term s.first)
       (flat_map (λ (a : Addend). factors_of_term a.term) s.rest) h in
       record { first = term_fits s.first parts.0; rest = addends_fit s.rest parts.1 }
 
@@ -159,7 +147,7 @@ places_there : (decls : List Array) (arrays : List (List ℤ)) → list_all (λ 
     → (ps : List ℕ) → list_all (λ p. nat_lt p (length decls)) ps ≡ true → Every (IsThere decls arrays) ps
 places_there decls arrays small stands [] h = tt
 places_there decls arrays small stands (p ∷ ps) h =
-    let parts = both (nat_lt p (length decls)) (list_all (λ q. nat_lt q (length decls)) ps) h in
+    let parts = and_parts (nat_lt p (length decls)) (list_all (λ q. nat_lt q (length decls)) ps) h in
     let below : p < length decls = leb-true (suc p) (length decls) parts.0 in (
       record {
         here = subst (λ m. p < m) (sym stands.counted) below;
@@ -183,7 +171,7 @@ module _ (functions : List Function) (final : List ℕ) (decls : List Array)
       (at v (flats (action_code decls line action ++ more) ++ rest) braces)
   action_goes line (Assign t sum) typed s stands cost more rest braces v holds clean go =
       let n = extent_of decls t in
-      let parts = both (nat_lt t (length decls)) (list_all (is_typed_factor decls (extent_at decls t)) (factors_of sum)) typed in
+      let parts = and_parts (nat_lt t (length decls)) (list_all (is_typed_factor decls (extent_at decls t)) (factors_of sum)) typed in
       let here : t < length s.arrays = subst (λ m. t < m) (sym stands.counted) (leb-true (suc t) (length decls) parts.0) in
       let fits =
       sum_fits decls s.arrays stands n sum
@@ -198,7 +186,7 @@ module _ (functions : List Function) (final : List ℕ) (decls : List Array)
       (subst (λ m. Holds (set s.arrays t (elements m (sum_value s.arrays sum))) w.blocks w.references w.made) (sym (stands.sized t))
       kept) empty))
   action_goes line (Print places) typed s stands cost more rest braces v holds clean go =
-      let parts = both (nat_lt 0 (length places)) (list_all (λ p. nat_lt p (length decls)) places) typed in
+      let parts = and_parts (nat_lt 0 (length places)) (list_all (λ p. nat_lt p (length decls)) places) typed in
       printing_does functions final s.written decls s.arrays stands.counted line places
       (places_there decls s.arrays small stands places parts.1) cost more rest braces v holds clean
       (λ w kept empty. go w stands kept empty)
@@ -211,7 +199,7 @@ module _ (functions : List Function) (final : List ℕ) (decls : List Array)
   statements_go [] typed s stands all v holds clean = ended functions final s.written (at v (code.Close ∷ []) [])
       (step_end functions v [] []) all
   statements_go (x ∷ ss) typed s stands all v holds clean =
-      let parts = both (is_typed_action decls x.action) (list_all (λ (s : Statement). is_typed_action decls s.action) ss) typed in
+      let parts = and_parts (is_typed_action decls x.action) (list_all (λ (s : Statement). is_typed_action decls s.action) ss) typed in
       action_goes x.line x.action parts.0 s stands (statements_cost decls ss) (statements_code decls ss) (code.Close ∷ []) [] v
       holds clean
       (λ w stood kept empty. statements_go ss parts.1 (after x.action s) stood all w kept empty)

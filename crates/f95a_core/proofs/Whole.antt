@@ -6,6 +6,7 @@ use Rattle.std.specs.List.{list_all}
 use Rattle.std.proofs.lemmas.List.{length-map, get_or_append_left, get_or_past}
 use Rattle.std.proofs.Math.ListN.{length-replicate, get_or-replicate}
 use Rattle.std.proofs.Math.Seq.{get_or-append_seam}
+use Rattle.std.proofs.lemmas.Bool.{and_parts}
 use Rattle.rank_one.specs.declared.unit.Unit.{Unit}
 use Rattle.rank_one.specs.declared.unit.Array.{Array}
 use Rattle.rank_one.specs.Meaning as meaning
@@ -31,7 +32,7 @@ use Rattle.loop_laws.proofs.Numbered.{with_at_same, with_at_other, made_here, ma
 use Rattle.f95a_core.proofs.Sums.{Holds}
 use Rattle.f95a_core.proofs.Elements.{IsInt}
 use Rattle.f95a_core.proofs.Loops.{row_before}
-use Rattle.f95a_core.proofs.Statements.{both, Stands, zero_int, statements_cost, statements_go}
+use Rattle.f95a_core.proofs.Statements.{Stands, zero_int, statements_cost, statements_go}
 
 -- ---- declarations
 
@@ -84,7 +85,7 @@ module _ (functions : List Function) (final written : List ℕ) (cost : ℕ) (mo
   declared_go (a ∷ decls) small done number at_number v holds count clean go =
       let n = a.extent in
       let z = replicate n (pos 0) in
-      let parts = both (nat_le n (2 ^ 24)) (list_all (λ (b : Array). nat_le b.extent (2 ^ 24)) decls) small in
+      let parts = and_parts (nat_le n (2 ^ 24)) (list_all (λ (b : Array). nat_le b.extent (2 ^ 24)) decls) small in
       let u : Vars = record v { line = a.line } in
       let x : Vars = record u {
         references = with_at None v.references (length done) (Some v.made);

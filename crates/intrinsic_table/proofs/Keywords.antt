@@ -6,6 +6,7 @@ use Rattle.std.proofs.lemmas.Slice.Eq.{bytes_eq-Decides}
 use Rattle.std.proofs.lemmas.Bool.Decides.{Decides-ltb}
 use Rattle.std.proofs.lemmas.Fmt.{decimal_injective}
 use Rattle.a95_base.specs.Lists.{Every}
+use Rattle.std.proofs.lemmas.Bool.{and_parts}
 use Rattle.intrinsic_table.specs.declared.intrinsic.Intrinsic.{Intrinsic}
 use Rattle.intrinsic_table.specs.declared.intrinsic.Intrinsic.TheVariants as intrinsic
 use Rattle.intrinsic_table.specs.Table.{Word, Arguments, Takes, Numbered, row_of}
@@ -39,10 +40,6 @@ differ (w ∷ ws) = is_new w ws && differ ws
 false_true : false ≡ true → ⊥
 false_true e = cc
 
-both : (a b : Bool) → (a && b) ≡ true → (a ≡ true) × (b ≡ true)
-both true b e = (refl, e)
-both false b e = absurd (false_true e)
-
 not_both : (b : Bool) → b ≡ true → not b ≡ true → ⊥
 not_both true e f = false_true f
 not_both false e f = false_true e
@@ -50,15 +47,15 @@ not_both false e f = false_true e
 new_stands_nowhere : (k : Word) (ws : List Word) → is_new k ws ≡ true → (p : ℕ) → slice_get ws p ≢ Some k
 new_stands_nowhere k [] h p e = none_some k None refl e
 new_stands_nowhere k (w ∷ ws) h zero e =
-    not_both (is_word k w) ((bytes_eq-Decides k w).1 (sym (some_same w k e))) (both (not (is_word k w)) (is_new k ws) h).0
-new_stands_nowhere k (w ∷ ws) h (suc p) e = new_stands_nowhere k ws (both (not (is_word k w)) (is_new k ws) h).1 p e
+    not_both (is_word k w) ((bytes_eq-Decides k w).1 (sym (some_same w k e))) (and_parts (not (is_word k w)) (is_new k ws) h).0
+new_stands_nowhere k (w ∷ ws) h (suc p) e = new_stands_nowhere k ws (and_parts (not (is_word k w)) (is_new k ws) h).1 p e
 
 one_place : (ws : List Word) → differ ws ≡ true → (p q : ℕ) (k : Word) → slice_get ws p ≡ Some k → slice_get ws q ≡ Some k → p ≡ q
 one_place [] h p q k e f = absurd (none_some k None refl e)
 one_place (w ∷ ws) h zero zero k e f = refl
-one_place (w ∷ ws) h zero (suc q) k e f = absurd (new_stands_nowhere w ws (both (is_new w ws) (differ ws) h).0 q (f ∙ sym e))
-one_place (w ∷ ws) h (suc p) zero k e f = absurd (new_stands_nowhere w ws (both (is_new w ws) (differ ws) h).0 p (e ∙ sym f))
-one_place (w ∷ ws) h (suc p) (suc q) k e f = ap (λ n. suc n) (one_place ws (both (is_new w ws) (differ ws) h).1 p q k e f)
+one_place (w ∷ ws) h zero (suc q) k e f = absurd (new_stands_nowhere w ws (and_parts (is_new w ws) (differ ws) h).0 q (f ∙ sym e))
+one_place (w ∷ ws) h (suc p) zero k e f = absurd (new_stands_nowhere w ws (and_parts (is_new w ws) (differ ws) h).0 p (e ∙ sym f))
+one_place (w ∷ ws) h (suc p) (suc q) k e f = ap (λ n. suc n) (one_place ws (and_parts (is_new w ws) (differ ws) h).1 p q k e f)
 
 abbrev differ_in : Arguments → Bool
 differ_in (Takes needed optional) = differ (needed ++ optional)

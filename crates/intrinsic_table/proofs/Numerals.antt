@@ -1,16 +1,17 @@
 -- Which numbers bytes write.
-use Rattle.std.proofs.Common.{◌≡◌, ℕ, zero, suc, ◌<◌, ◌≤◌, ◌^◌, true, false, ◌&&◌, List, [], ◌∷◌, length, get_or, Some, None}
+use Rattle.std.proofs.Common.{◌≡◌, ℕ, ◌<◌, ◌≤◌, ◌^◌, true, false, ◌&&◌, List, [], ◌∷◌, length, get_or, Some, None}
 use Rattle.std.proofs.Common.{Result, Ok, Err, sym, ap, subst, ◌∙◌, arith}
 use Rattle.std.specs.Prelude.{nat_le, decimal}
 use Rattle.std.specs.Str.{IsUtf8}
 use Rattle.std.specs.Str.Parse.{AllDigits, digits_value, ParsesUnsigned}
 use Rattle.std.specs.Result.{OkIff}
 use Rattle.std.proofs.lemmas.Bool.Decides.{nat_tests}
-use Rattle.std.proofs.lemmas.Fmt.{decimal_digit, decimal_nonempty, first_decimal, digits_decimal, parse-decimal}
+use Rattle.std.proofs.lemmas.Fmt.{decimal_nonempty, first_decimal, digits_decimal, parse-decimal}
 use Rattle.std.proofs.lemmas.Fmt.{decimal-digits_value, IsAscii-decimal}
 use Rattle.std.proofs.lemmas.Str.{IsUtf8-from_ascii}
 use Rattle.std.proofs.lemmas.Str.Parse.{IsNumeralModel, numerals_by_value, tells_digits, digit_at, parse_plain}
 use Rattle.std.specs.Int.{IsInRange}
+use Rattle.a95_base.proofs.Texts.{some_number}
 use Rattle.intrinsic_table.specs.Standing.{begins_number, Writes}
 
 numerals : IsNumeralModel (AllDigits 10) (digits_value 10)
@@ -54,13 +55,6 @@ not_utf8 bytes h n some small e = let P : List ℕ → Type 0 = λ xs. IsUtf8 xs
 
 -- ---- what is parsed
 
-positive : (n : ℕ) (bytes : List ℕ) → decimal n ≡ bytes → 49 ≤ get_or bytes 0 0 → 0 < n
-positive zero bytes e h =
-    let z : decimal 0 ≡ 48 ∷ [] = decimal_digit 0 (omega arith) in
-    let first : get_or bytes 0 0 ≡ 48 = ap (λ xs. get_or xs 0 0) (sym e ∙ z) in
-    absurd (omega arith)
-positive (suc n) bytes e h = omega arith
-
 pub parsed_some : {E : Type 0} (bytes : List ℕ) (r : Result ℕ E) (n : ℕ) → begins_number bytes ≡ true
     → ParsesUnsigned 32 10 bytes r → r ≡ Ok n → Writes bytes (Some n)
 parsed_some {E = E} bytes r n h parses is =
@@ -74,7 +68,7 @@ parsed_some {E = E} bytes r n h parses is =
     (wide (digits_value 10 bytes) ok.0.2) in
     let same : decimal n ≡ bytes = ap decimal ok.1 ∙ writes in
     let Q : ℕ → Type 0 = λ m. m < 2 ^ 32 in
-    (positive n bytes same b.0, subst Q (sym ok.1) ok.0.2, sym same)
+    (some_number n bytes same b.0, subst Q (sym ok.1) ok.0.2, sym same)
 
 pub parsed_none : {E : Type 0} (bytes : List ℕ) (r : Result ℕ E) (x : E) → ParsesUnsigned 32 10 bytes r → r ≡ Err x
     → Writes bytes None

@@ -8,6 +8,7 @@ use Rattle.std.proofs.lemmas.Bool.Decides.{nat_tests}
 use Rattle.std.proofs.lemmas.List.{map-append, get_or_default}
 use Rattle.std.proofs.lemmas.List.Elements.{filter-append}
 use Rattle.std.proofs.lemmas.Option.{slice_get-get_or, slice_get_past}
+use Rattle.a95_base.proofs.Tests.{equals_itself}
 use Rattle.loop_tree.specs.declared.stuck.StuckState.{StuckState}
 use Rattle.loop_tree.specs.declared.stuck.StuckState.TheVariants as stuck
 use Rattle.loop_tree.specs.State.{Cells, Block, cells_numbered, cells_or_stuck, cells_at, with_cells, without, made_before}
@@ -133,12 +134,9 @@ lacks_missed n (k ∷ ks) h =
 
 -- ---- the slot of a number
 
-same_number : (n : ℕ) → (n == n) ≡ true
-same_number n = grind (arith, nat_tests)
-
 numbered_block : (n : ℕ) (cells : Option Cells) → cells_numbered (block_of n cells) n ≡ cells
 numbered_block n None = refl
-numbered_block n (Some cells) = rw (same_number n)
+numbered_block n (Some cells) = rw (equals_itself n)
 
 pub numbered_at : (low top : ℕ) (ks : List Kept) (i : ℕ) (d : Kept) → IsRising low top ks → i < length ks
     → cells_numbered (living ks) (get_or ks i d).number ≡ (get_or ks i d).cells
@@ -176,7 +174,7 @@ slot_changed change low top (k ∷ ks) (suc i) d new parts others here h below =
     (slot_changed change (k.number + 1) top ks i d new parts others here h.1 (omega arith))
 
 with_cells_block : (n : ℕ) (c old : Cells) → with_cells (block_of n (Some old)) n c ≡ block_of n (Some c)
-with_cells_block n c old = rw (same_number n)
+with_cells_block n c old = rw (equals_itself n)
 
 -- other cells of one slot
 pub with_cells_at : (low top : ℕ) (ks : List Kept) (i : ℕ) (d : Kept) (old c : Cells) → IsRising low top ks → i < length ks →
@@ -193,7 +191,7 @@ with_cells_at low top ks i d old c h below e =
 
 without_block : (n : ℕ) (cells : Option Cells) → without (block_of n cells) n ≡ []
 without_block n None = refl
-without_block n (Some cells) = rw (same_number n)
+without_block n (Some cells) = rw (equals_itself n)
 
 -- one slot is freed
 pub without_at : (low top : ℕ) (ks : List Kept) (i : ℕ) (d : Kept) → IsRising low top ks → i < length ks

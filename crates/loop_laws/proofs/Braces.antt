@@ -1,15 +1,16 @@
 -- Choices and loops over whole statements. That these pass over braces is a law of `loop_tree`; it is used here, and no
 -- proof above names `exits`.
-use Rattle.std.proofs.Common.{◌≡◌, true, List, [], ◌∷◌, ◌++◌, refl, sym, ap, ◌∙◌, append_assoc, ℤ, pos, if◌then◌else◌}
+use Rattle.std.proofs.Common.{◌≡◌, true, List, [], ◌∷◌, ◌++◌, refl, ap, ◌∙◌, append_assoc, ℤ, pos, if◌then◌else◌}
 use Rattle.std.specs.Prelude.{int_lt, ◌+ℤ◌, ◌-ℤ◌, int_le}
 use Rattle.std.specs.Int.{w64, int_wrap}
 use Rattle.loop_tree.specs.declared.tree.CodeLine.{CodeLine}
 use Rattle.loop_tree.specs.declared.tree.CodeLine.TheVariants as code
 use Rattle.loop_tree.specs.declared.tree.Stmt.{Stmt}
-use Rattle.loop_tree.specs.Lines.{flat, flats}
+use Rattle.loop_tree.specs.Lines.{flats}
 use Rattle.loop_tree.specs.State.{Brace, Choice, Upward, Downward, Forever}
 use Rattle.loop_tree.specs.Values.{number_at, holds}
 use Rattle.a95_base.specs.Lists.{rest_of}
+use Rattle.loop_tree.proofs.Bodies.{flats-append}
 use Rattle.loop_tree.specs.Machine.{step, step_at, do_line, row_line, control_line, break_line, continue_line, if_line, else_line}
 use Rattle.loop_tree.specs.Machine.{for_up_line, for_down_line, forever_line, close_line, exits, loop_end, Place, first_exit}
 use Rattle.loop_tree.specs.Machine.{skip_choice, quiet, turn}
@@ -22,11 +23,6 @@ use Rattle.loop_laws.specs.Braces.{ClosesAt, BreakStep, ContinueStep, is_loop, C
 use Rattle.loop_laws.proofs.Numbered.{with_at_same}
 
 -- ---- the lines of statements
-
-flats-append : (a b : List Stmt) → flats (a ++ b) ≡ flats a ++ flats b
-flats-append [] b = refl
-flats-append (s ∷ a) b = ap (λ (x : List CodeLine). flat s ++ x) (flats-append a b)
-    ∙ sym (append_assoc (flat s) (flats a) (flats b))
 
 pub split : Split
 split a b lines = ap (λ (x : List CodeLine). x ++ lines) (flats-append a b) ∙ append_assoc (flats a) (flats b) lines

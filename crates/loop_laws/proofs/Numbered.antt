@@ -1,8 +1,9 @@
 -- Variables and blocks by their numbers.
 use Rattle.std.proofs.Common.{◌≡◌, ◌≢◌, ℕ, zero, suc, ◌==◌, ◌<◌, ◌≤◌, Bool, true, false, List, [], ◌∷◌, Option, Some, None, refl}
-use Rattle.std.proofs.Common.{ap, ◌∙◌, sym, arith, eq-eqb, nat_lt}
+use Rattle.std.proofs.Common.{ap, ◌∙◌, sym, arith, nat_lt}
 use Rattle.std.specs.Prelude.{get_or, if◌then◌else◌}
 use Rattle.std.proofs.lemmas.Bool.Decides.{nat_tests}
+use Rattle.a95_base.proofs.Tests.{equals_itself}
 use Rattle.loop_tree.specs.State.{Cells, with_at, cells_numbered, with_cells, without, made_before}
 use Rattle.loop_laws.specs.Numbered.{MadeHere, MadeElsewhere, ChangedHere, ChangedElsewhere, FreedHere, FreedElsewhere, MadeInCall}
 use Rattle.loop_laws.specs.Numbered.{MadeBeforeCall}
@@ -25,14 +26,11 @@ with_at_other d (x ∷ xs) zero (suc m) v h = refl
 with_at_other d (x ∷ xs) (suc n) zero v h = refl
 with_at_other d (x ∷ xs) (suc n) (suc m) v h = with_at_other d xs n m v (λ e. h (ap suc e))
 
-same : (n : ℕ) → (n == n) ≡ true
-same n = eq-eqb n n refl
-
 apart : (n m : ℕ) → n ≢ m → (n == m) ≡ false
 apart n m h = grind (arith, nat_tests)
 
 pub made_here : MadeHere
-made_here bs m c = rw (same m)
+made_here bs m c = rw (equals_itself m)
 
 pub made_elsewhere : MadeElsewhere
 made_elsewhere bs m k c h = let e = apart m k h in rw e
@@ -43,7 +41,7 @@ changed_here (b ∷ bs) n before c h = by (λ g. changed_here bs n before c g) (
   where
     by : (cells_numbered bs n ≡ Some before → cells_numbered (with_cells bs n c) n ≡ Some c) → (t : Bool) → (b.number == n) ≡ t →
         cells_numbered (with_cells (b ∷ bs) n c) n ≡ Some c
-    by more true e = rw e (rw (same n))
+    by more true e = rw e (rw (equals_itself n))
     by more false e = rw (e, e) (more (rw e at h))
 
 pub changed_elsewhere : ChangedElsewhere

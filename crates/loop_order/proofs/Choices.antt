@@ -4,11 +4,12 @@ use Rattle.std.proofs.Common.{Some, None, refl, sym, ap, ◌∙◌, subst, inl, 
 use Rattle.std.specs.Prelude.{IsTrue, find, option_map, option_and_then}
 use Rattle.std.specs.List.{list_any}
 use Rattle.std.proofs.lemmas.Bool.{and_parts, and_cases, and_from, not-true, not_from_false, false≢true, both_ways, and_left}
-use Rattle.std.proofs.lemmas.Bool.{and_right, cases_Bool, eq-eqb, ne_eqb, cases_eq}
+use Rattle.std.proofs.lemmas.Bool.{and_right, cases_Bool, eq-eqb, ne_eqb, cases_eq, or_left, or_right}
 use Rattle.a95_base.specs.Lists.{Every, Member, Permuted}
 use Rattle.a95_base.specs.Lists.Permuted.{none, skip, swap, join}
 use Rattle.a95_base.proofs.Lists.{Every-weaker, Every-both, Every-all}
 use Rattle.a95_base.proofs.Permuted.{permuted_equal, permuted_back, Permuted-Member, Permuted-length}
+use Rattle.std.proofs.lemmas.Option.{same_Some}
 use Rattle.rank_shape.specs.declared.distance.Entry.{Entry}
 use Rattle.rank_shape.specs.Order.{Level, loops_of}
 use Rattle.loop_order.specs.declared.sign.Sign.{Sign}
@@ -203,24 +204,13 @@ legal_without loop order distances legal =
 
 -- ---- the choice
 
-pub some_is : {A : Type 0} (a b : A) → Some a ≡ Some b → a ≡ b
-some_is a b same = cc
-
-or_left_true : (a b : Bool) → a ≡ true → (a || b) ≡ true
-or_left_true true b t = refl
-or_left_true false b t = absurd (false≢true t)
-
-or_right_true : (a b : Bool) → b ≡ true → (a || b) ≡ true
-or_right_true true b t = refl
-or_right_true false b t = t
-
 -- each item counts for the whole
 each_counts : {A : Type 0} (p : A → Bool) (xs : List A) → Every (λ x. p x ≡ true → list_any p xs ≡ true) xs
 each_counts p [] = tt
 each_counts p (x ∷ xs) = (
-  λ t. or_left_true (p x) (list_any p xs) t,
+  λ t. or_left (p x) (list_any p xs) t,
   Every-weaker (λ y. p y ≡ true → list_any p xs ≡ true)
-      (λ y. p y ≡ true → (p x || list_any p xs) ≡ true) (λ y f t. or_right_true (p x) (list_any p xs) (f t)) xs
+      (λ y. p y ≡ true → (p x || list_any p xs) ≡ true) (λ y f t. or_right (p x) (list_any p xs) (f t)) xs
       (each_counts p xs),
 )
 
@@ -282,7 +272,7 @@ after_first left distances order n loop long later suited has None found is = cc
 after_first left distances order n loop long later suited has (Some inner) found is =
     let inside = later (without loop left) (unsettled loop distances) inner (left_shorter left loop n long has) found in
     let P : List Level → Type 0 = λ o. IsSuited left distances o in
-    subst P (some_is (record { number = loop; down = some_entry is_up loop distances } ∷ inner) order is)
+    subst P (same_Some (record { number = loop; down = some_entry is_up loop distances } ∷ inner) order is)
     (record {
       legal = suited_legal loop inner distances suited inside.legal;
       named = join (skip loop inside.named) (permuted_back (put_back left loop has));
@@ -304,7 +294,7 @@ pub choice_legal : (n : ℕ) (left : List ℕ) (distances : List (List Entry)) (
     choice n left distances ≡ Some order → IsSuited left distances order
 choice_legal zero [] distances order long is =
     let P : List Level → Type 0 = λ o. IsSuited [] distances o in
-    subst P (some_is [] order is) (record { legal = Every-all (λ d. IsTrue true) (λ d. refl) distances; named = none })
+    subst P (same_Some [] order is) (record { legal = Every-all (λ d. IsTrue true) (λ d. refl) distances; named = none })
 choice_legal zero (x ∷ left) distances order long is = absurd (omega arith)
 choice_legal (suc n) left distances order long is = first left distances order n long (λ l ds o. choice_legal n l ds o)
     (find (λ loop. suits loop distances) left) refl is

@@ -8,6 +8,7 @@ use Rattle.std.proofs.lemmas.List.{drop_more, get_or-set_same, get_or-set_other}
 use Rattle.a95_base.specs.Lists.{Every, down_to_one}
 use Rattle.a95_base.proofs.Lists.{Every-weaker}
 use Rattle.a95_base.proofs.Permuted.{each_from_one}
+use Rattle.a95_base.proofs.Tests.{and-true, and-false}
 use Rattle.rank_shape.specs.declared.distance.Entry.{Entry}
 use Rattle.rank_shape.specs.declared.distance.Entry.TheVariants as entry
 use Rattle.loop_order.specs.declared.sign.Sign.{Sign}
@@ -105,20 +106,6 @@ one_more_open (true ∷ taken) (suc k) (e ∷ d) inside =
 one_more_open (false ∷ taken) (suc k) [] inside = one_more_open taken k [] (omega arith)
 one_more_open (false ∷ taken) (suc k) (e ∷ d) inside = one_more_open taken k d (omega arith)
 
-and_true : (b : Bool) → (b && true) ≡ b
-and_true true = refl
-and_true false = refl
-
-and_false : (b : Bool) → (b && false) ≡ false
-and_false true = refl
-and_false false = refl
-
-or_turned : (a b c : Bool) → ((a || b) || c) ≡ (b || (a || c))
-or_turned true true c = refl
-or_turned true false c = refl
-or_turned false true c = refl
-or_turned false false c = refl
-
 filter_twice : {A : Type 0} (p q r : A → Bool) → ((x : A) → r x ≡ (p x && q x)) → (xs : List A) →
     filter r xs ≡ filter p (filter q xs)
 filter_twice p q r both [] = refl
@@ -128,8 +115,8 @@ filter_twice p q r both (x ∷ xs) =
     ∙ sym (elim (q x)
     as (λ b. filter p (cond b (x ∷ filter q xs) (filter q xs))
     ≡ cond (p x && b) (x ∷ filter p (filter q xs)) (filter p (filter q xs))) [
-      | true ↦ sym (ap (λ b. cond b (x ∷ filter p (filter q xs)) (filter p (filter q xs))) (and_true (p x)))
-      | false ↦ sym (ap (λ b. cond b (x ∷ filter p (filter q xs)) (filter p (filter q xs))) (and_false (p x)))
+      | true ↦ sym (ap (λ b. cond b (x ∷ filter p (filter q xs)) (filter p (filter q xs))) (and-true (p x)))
+      | false ↦ sym (ap (λ b. cond b (x ∷ filter p (filter q xs)) (filter p (filter q xs))) (and-false (p x)))
     ])
 
 pub one_more_settled : (taken : List Bool) (l : ℕ) (distances : List (List Entry)) → 1 ≤ l → l ≤ length taken →
@@ -139,6 +126,12 @@ one_more_settled taken l distances least inside =
     (λ d. one_more_open taken (l - 1) d (omega arith)) distances
 
 -- ---- one more distance looked at
+
+or_turned : (a b c : Bool) → ((a || b) || c) ≡ (b || (a || c))
+or_turned true true c = refl
+or_turned true false c = refl
+or_turned false true c = refl
+or_turned false false c = refl
 
 -- what is known of a loop once one more distance has been looked at
 pub asks_open : (test : Sign → Bool) (loop : ℕ) (taken : List Bool) (d : List Entry) (others : List (List Entry)) (before : Bool) →

@@ -2,9 +2,9 @@
 use Rattle.std.proofs.Common.{◌≡◌, ℕ, ◌+◌, ◌≤◌, ◌<◌, Bool, true, false, ◌||◌, List, [], ◌∷◌, ◌++◌, map, length, nat_lt, Option}
 use Rattle.std.proofs.Common.{Some, refl, sym, ◌∙◌, ap, subst, arith, append_assoc, append-nil}
 use Rattle.std.specs.List.{AllByRecursion}
-use Rattle.std.specs.Str.{bytes_eq}
-use Rattle.std.proofs.lemmas.Slice.Eq.{bytes_eq-Decides}
 use Rattle.std.proofs.lemmas.Bool.Decides.{nat_tests}
+use Rattle.std.proofs.lemmas.Bool.{or_left, or_right}
+use Rattle.a95_base.proofs.Texts.{bytes_same}
 use Rattle.loop_tree.specs.declared.atom.Letter.{Letter}
 use Rattle.loop_tree.specs.declared.atom.Atom.{Atom}
 use Rattle.loop_tree.specs.declared.row.Row.{Row}
@@ -35,9 +35,6 @@ pub reads-append : (o : Option Reader) (xs ys : List (List ℕ)) → reads o (xs
 reads-append o [] ys = refl
 reads-append o (x ∷ xs) ys = reads-append (accept_in o x) xs ys
 
-pub bytes_same : (xs : List ℕ) → bytes_eq xs xs ≡ true
-bytes_same xs = (bytes_eq-Decides xs xs).1 refl
-
 -- a line that is spelled right is added
 pub spelled : (fs : List Function) (ps : List Letter) (ls : List Level) (body : List Stmt) (line : CodeLine) → FitsLine line →
     accept (reading fs ps ls body) (spell line) ≡ add_line (reading fs ps ls body) line
@@ -65,13 +62,6 @@ AddsAt s = (fs : List Function) (ps : List Letter) (ls : List Level) (body : Lis
     length ls + 1 + depth s ≤ 1000 → (leaves s ≡ true → in_loop ls ≡ true) →
     reads (Some (reading fs ps ls body)) (map spell (flat s)) ≡ Some (reading fs ps ls (body ++ s ∷ []))
 
-left_true : (a b : Bool) → a ≡ true → (a || b) ≡ true
-left_true a b e = rw e refl
-
-right_true : (a b : Bool) → b ≡ true → (a || b) ≡ true
-right_true true b e = refl
-right_true false b e = e
-
 pub adds_all : (fs : List Function) (ps : List Letter) (ls : List Level) (body more : List Stmt) → AllByRecursion AddsAt more →
     AllByRecursion FitsLine (flats more) → length ls + 1 + depths more ≤ 1000 →
     (some_leaves more ≡ true → in_loop ls ≡ true) → reads (Some (reading fs ps ls body)) (map spell (flats more))
@@ -82,9 +72,9 @@ adds_all fs ps ls body (s ∷ more) adds fits deep loops =
     ∙ (reads-append (Some (reading fs ps ls body)) (map spell (flat s)) (map spell (flats more))
     ∙ (ap (λ o. reads o (map spell (flats more)))
     (adds.0 fs ps ls body (all_left FitsLine (flat s) (flats more) fits) (omega arith)
-    (λ e. loops (left_true (leaves s) (some_leaves more) e)))
+    (λ e. loops (or_left (leaves s) (some_leaves more) e)))
     ∙ (adds_all fs ps ls (body ++ s ∷ []) more adds.1 (all_right FitsLine (flat s) (flats more) fits) (omega arith)
-    (λ e. loops (right_true (leaves s) (some_leaves more) e))
+    (λ e. loops (or_right (leaves s) (some_leaves more) e))
     ∙ ap (λ b. Some (reading fs ps ls b)) (append_assoc body (s ∷ []) more))))
 
 -- a line that opens a brace
@@ -194,12 +184,12 @@ adds_else test first other adds more = by_lines (stmt.IfElse test first other) _
     ∙ (reads-append (Some (reading fs ps within [])) (map spell (flats first)) (map spell (code.Else ∷ behind))
     ∙ (ap (λ o. reads o (map spell (code.Else ∷ behind)))
     (adds_all fs ps within [] first adds (all_left FitsLine (flats first) (code.Else ∷ behind) fits.1) (omega (arith, depth_is))
-    (λ e. loops (leaves-IfElse test first other ∙ left_true (some_leaves first) (some_leaves other) e)))
+    (λ e. loops (leaves-IfElse test first other ∙ or_left (some_leaves first) (some_leaves other) e)))
     ∙ (ap (λ o. reads o (map spell behind)) (at_else fs ps ls body first test)
     ∙ to_close fs ps ls body [] other (kind.Else test first) more
     (all_left FitsLine (flats other) (code.Close ∷ []) (all_right FitsLine (flats first) (code.Else ∷ behind) fits.1).1)
     (omega (arith, depth_is))
-    (λ e. loops (leaves-IfElse test first other ∙ right_true (some_leaves first) (some_leaves other) e)))))))
+    (λ e. loops (leaves-IfElse test first other ∙ or_right (some_leaves first) (some_leaves other) e)))))))
 
 pub adds : (s : Stmt) → AddsAt s
 adds = each_statement AddsAt

@@ -4,10 +4,11 @@ use Rattle.std.proofs.Common.{List, [], ◌∷◌, ◌++◌, length, drop, codes
 use Rattle.std.proofs.lemmas.Int.{ints}
 use Rattle.std.specs.Int.{w64, cast_signed, cast_unsigned, int_wrapping_neg}
 use Rattle.std.specs.List.{AllByRecursion}
+use Rattle.a95_base.specs.Input.{is_digit}
 use Rattle.loop_tree.specs.declared.atom.Argument.{Argument}
 use Rattle.loop_tree.specs.Program.{FitsNumber, FitsByte, FitsAtom, FitsText, FitsReference, FitsArgument, FitsInt, FitsWords}
 use Rattle.loop_tree.specs.Program.{FitsBlock, FitsRow, FitsLine}
-use Rattle.loop_text.specs.Guess.{byte_at, begins, is_digit, NumberOn, number_onto, number_on, index_on, AtomOn, atom_on}
+use Rattle.loop_text.specs.Guess.{byte_at, begins, NumberOn, number_onto, number_on, index_on, AtomOn, atom_on}
 use Rattle.loop_text.specs.Guess.{begins_atom, escape_onto, quoted_onto, ends_quote, escape_left, behind_quote, TextOn, text_on}
 use Rattle.loop_text.specs.Guess.{begins_text, ReferenceOn, reference_on, ArgumentOn, argument_on, arguments_onto, arguments_on}
 use Rattle.loop_text.specs.Guess.{operator_on, operator_length, operation_on, int_cell_on, int_power_on, int_xor_on, int_index_on}

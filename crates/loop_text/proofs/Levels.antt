@@ -14,6 +14,7 @@ use Rattle.loop_text.specs.declared.level.LevelKind.{LevelKind}
 use Rattle.loop_text.specs.declared.level.LevelKind.TheVariants as kind
 use mathlib.Core.List.{reverse-cons}
 use Rattle.std.proofs.lemmas.List.Folds.{list_any-append}
+use Rattle.a95_base.proofs.Tests.{or-false}
 use Rattle.loop_text.specs.declared.level.Level.{Level}
 use Rattle.loop_text.specs.Reader.{is_loop, in_loop, closed}
 
@@ -23,15 +24,11 @@ or_comm true false = refl
 or_comm false true = refl
 or_comm false false = refl
 
-pub or_false : (a : Bool) → (a || false) ≡ a
-or_false true = refl
-or_false false = refl
-
 pub in_loop_reversed : (levels : List Level) → in_loop (reverse levels) ≡ in_loop levels
 in_loop_reversed [] = refl
 in_loop_reversed (level ∷ levels) =
     ap in_loop (reverse-cons level levels) ∙ list_any-append (λ (l : Level). is_loop l.kind) (reverse levels) (level ∷ [])
-    ∙ (ap (λ b. in_loop (reverse levels) || b) (or_false (is_loop level.kind))
+    ∙ (ap (λ b. in_loop (reverse levels) || b) (or-false (is_loop level.kind))
     ∙ (or_comm (in_loop (reverse levels)) (is_loop level.kind) ∙ ap (λ b. is_loop level.kind || b) (in_loop_reversed levels)))
 
 -- ---- the lines read in a function
@@ -112,7 +109,7 @@ pub leaks-closed : (level : Level) (levels : List Level) (body : List Stmt) →
 leaks-closed level levels body =
     ap (leaks levels)
     (some_leaves-append level.outer (closed level.kind body ∷ [])
-    ∙ ap (λ b. some_leaves level.outer || b) (or_false (leaves (closed level.kind body)) ∙ leaves-closed level.kind body))
+    ∙ ap (λ b. some_leaves level.outer || b) (or-false (leaves (closed level.kind body)) ∙ leaves-closed level.kind body))
 
 pub some_leaves-close_all : (levels : List Level) (body : List Stmt) → some_leaves (close_all levels body)
     ≡ leaks levels (some_leaves body)

@@ -6,11 +6,12 @@ use Rattle.std.proofs.lemmas.Bool.Decides.{nat_tests}
 use Rattle.std.proofs.lemmas.Int.{ints, of_z-to_z}
 use mir.Facts.{to_z-neg}
 use Rattle.std.specs.Int.{w64, cast_signed, int_wrapping_neg}
+use Rattle.a95_base.specs.Input.{is_digit}
 use Rattle.loop_tree.specs.declared.atom.Atom.{Atom}
 use Rattle.loop_tree.specs.declared.atom.Atom.TheVariants as atom
 use Rattle.loop_tree.specs.Text.{atom_text}
 use Rattle.loop_tree.specs.Program.{FitsAtom}
-use Rattle.loop_text.specs.Guess.{byte_at, is_digit, NumberOn, number_onto, number_on, index_on, int_atom, loop_atom, negative_atom}
+use Rattle.loop_text.specs.Guess.{byte_at, NumberOn, number_onto, number_on, index_on, int_atom, loop_atom, negative_atom}
 use Rattle.loop_text.specs.Guess.{positive_atom, atom_on}
 
 -- ---- numbers

@@ -4,6 +4,7 @@ use Rattle.std.proofs.Common.{append_assoc}
 use Rattle.a95_base.specs.declared.fault.FaultKind.{FaultKind}
 use Rattle.a95_base.specs.declared.fault.FaultKind.TheVariants as kind
 use Rattle.a95_base.specs.Fault.{fault_number}
+use Rattle.a95_base.specs.Input.{is_digit}
 use Rattle.loop_tree.specs.declared.atom.Atom.{Atom}
 use Rattle.loop_tree.specs.declared.row.BlockRow.{BlockRow}
 use Rattle.loop_tree.specs.declared.row.BlockRow.TheVariants as block
@@ -18,7 +19,7 @@ use Rattle.loop_tree.specs.declared.tree.CodeLine.TheVariants as code
 use Rattle.loop_tree.specs.Text.{atom_text, text_atom_text, reference_text, argument_text, listed_by, int_value_text}
 use Rattle.loop_tree.specs.Text.{text_value_text, block_row_text, control_row_text, record_row_text, row_text, spell}
 use Rattle.loop_tree.specs.Program.{FitsAtom, FitsBlock, FitsControl, FitsRecord, FitsRow, FitsLine}
-use Rattle.loop_text.specs.Guess.{byte_at, is_digit, NumberOn, AtomOn, TextOn, ReferenceOn, number_on, atom_on, text_on}
+use Rattle.loop_text.specs.Guess.{byte_at, NumberOn, AtomOn, TextOn, ReferenceOn, number_on, atom_on, text_on}
 use Rattle.loop_text.specs.Guess.{reference_on, index_on, arguments_on, int_value_on, text_value_on, store_int_on, store_text_on}
 use Rattle.loop_text.specs.Guess.{ints_value_on, new_text_on, texts_value_on, ints_row_on, texts_row_on, int_row_on, text_row_on}
 use Rattle.loop_text.specs.Guess.{call_on, variable_row_on, fault_of, grow_on, built_in_on, for_on, loop_on, word_on, line_on}

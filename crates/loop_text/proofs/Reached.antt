@@ -1,11 +1,12 @@
 -- What was read begins a text, and whoever read it knows which.
 use Rattle.std.proofs.Common.{◌≡◌, ℕ, suc, ◌+◌, ◌≤◌, ◌<◌, ◌^◌, max, Bool, true, false, ◌||◌, nat_lt, if◌then◌else◌, List, [], ◌∷◌}
-use Rattle.std.proofs.Common.{◌++◌, map, length, codes, Option, Some, None, refl, sym, ◌∙◌, ap, subst, arith, append_assoc}
+use Rattle.std.proofs.Common.{◌++◌, map, length, codes, Some, None, refl, sym, ◌∙◌, ap, subst, arith, append_assoc}
 use Rattle.std.proofs.Common.{append-nil, length-append}
 use Rattle.std.specs.List.{AllByRecursion}
 use Rattle.std.specs.Str.{bytes_eq}
-use Rattle.std.proofs.lemmas.Slice.Eq.{bytes_eq-Decides}
 use Rattle.std.proofs.lemmas.Bool.Decides.{nat_tests}
+use Rattle.a95_base.proofs.Tests.{or-false, some_behind}
+use Rattle.a95_base.proofs.Texts.{same_bytes}
 use Rattle.loop_tree.specs.declared.atom.Letter.{Letter}
 use Rattle.loop_tree.specs.declared.atom.Atom.{Atom}
 use Rattle.loop_tree.specs.declared.row.Row.{Row}
@@ -29,7 +30,7 @@ use Rattle.loop_text.specs.Reader.{close_in, add_line, go_on, accept, nothing_re
 use Rattle.loop_text.proofs.Completes.{reading, spell-append}
 use Rattle.loop_text.proofs.WholeText.{outside}
 use Rattle.loop_text.proofs.Fits.{AreBytes, line_fits}
-use Rattle.loop_text.proofs.Levels.{or_false, opening, lines_in, lines_in-more, lines_in-closed, leaves_kind, leaks, leaks-closed}
+use Rattle.loop_text.proofs.Levels.{opening, lines_in, lines_in-more, lines_in-closed, leaves_kind, leaks, leaks-closed}
 use Rattle.loop_text.proofs.Levels.{leaks-in_loop, kind_depth, deep, deep-closed, deep-max}
 
 -- ---- states, with the lines that lead to them
@@ -64,13 +65,6 @@ some_if : {A : Type 0} (b : Bool) (x y : A) → (if b then Some x else None) ≡
 some_if true x y e = (refl, cc)
 some_if false x y e = absurd cc
 
-some_by : {A : Type 0} (b : Bool) (o : Option A) (y : A) → (if b then o else None) ≡ Some y → (b ≡ true) × (o ≡ Some y)
-some_by true o y e = (refl, e)
-some_by false o y e = absurd cc
-
-same_bytes : (xs ys : List ℕ) → bytes_eq xs ys ≡ true → xs ≡ ys
-same_bytes xs ys e = (bytes_eq-Decides xs ys).0 e
-
 -- ---- one more line in a function
 
 lines_more : (fs : List Function) (ps : List Letter) (ls ls' : List Level) (body body' : List Stmt) (line : CodeLine) →
@@ -103,14 +97,14 @@ stands ls body row true e h = leaks-in_loop ls (some_leaves body || true) (some_
   where
     stand_is : (row : Row) (ls : List Level) (b : Bool) → leaves_row row ≡ b → may_stand row ls ≡ (if b then in_loop ls else true)
     stand_is row ls b e = ap (λ x. if x then in_loop ls else true) e
-stands ls body row false e h = ap (leaks ls) (or_false (some_leaves body))
+stands ls body row false e h = ap (leaks ls) (or-false (some_leaves body))
 
 row_open : (ls : List Level) (body : List Stmt) (row : Row) → IsOpen ls body → FitsRow row → may_stand row ls ≡ true →
     IsOpen ls (body ++ stmt.Row row ∷ [])
 row_open ls body row is fits may =
     let leaving : some_leaves (body ++ stmt.Row row ∷ []) ≡ (some_leaves body || leaves_row row) =
     some_leaves-append body (stmt.Row row ∷ []) ∙ ap (λ b. some_leaves body || b)
-    (or_false (leaves (stmt.Row row)) ∙ leaves-Row row) in
+    (or-false (leaves (stmt.Row row)) ∙ leaves-Row row) in
     let same : depths (body ++ stmt.Row row ∷ []) ≡ depths body =
     omega (arith, depths-append body (stmt.Row row ∷ []), depth-Row row) in
     record {
@@ -137,7 +131,7 @@ opened ls body k line fresh is fits room =
     record {
       numbers = numbers_more ls (record { kind = k; outer = body } ∷ ls) body [] line (opened_line ls body k line fresh) is.numbers
           fits;
-      loops = ap (λ b. leaks ls (some_leaves body || b)) fresh.leaves ∙ (ap (leaks ls) (or_false (some_leaves body)) ∙ is.loops);
+      loops = ap (λ b. leaks ls (some_leaves body || b)) fresh.leaves ∙ (ap (leaks ls) (or-false (some_leaves body)) ∙ is.loops);
       braces = omega (arith, deeper, deep-max ls (depths body) 1, is.braces);
     }
 
@@ -154,7 +148,7 @@ else_open ls outer body a is =
     record {
       numbers = numbers_more (record { kind = kind.If a; outer = outer } ∷ ls)
           (record { kind = kind.Else a body; outer = outer } ∷ ls) body [] code.Else (else_line ls outer body a) is.numbers tt;
-      loops = ap (λ b. leaks ls (some_leaves outer || b)) (or_false (some_leaves body)) ∙ is.loops;
+      loops = ap (λ b. leaks ls (some_leaves outer || b)) (or-false (some_leaves body)) ∙ is.loops;
       braces = subst (λ d. deep ls (max (depths outer) d) + 1 ≤ 1000) (sym depth_is) is.braces;
     }
 
@@ -302,7 +296,7 @@ inside_reached : (fs : List Function) (ps : List Letter) (ls : List Level) (body
     accept (reading fs ps ls body) bytes ≡ Some r → Reached r (inside_lines fs ps ls body ++ bytes ∷ [])
 unfolding accept go_on
 inside_reached fs ps ls body bytes r so may is are e =
-    let made = some_by (bytes_eq bytes (spell (line_on bytes))) (add_line (reading fs ps ls body) (line_on bytes)) r e in
+    let made = some_behind (bytes_eq bytes (spell (line_on bytes))) (add_line (reading fs ps ls body) (line_on bytes)) r e in
     subst (λ bs. Reached r (inside_lines fs ps ls body ++ bs ∷ [])) (sym (same_bytes bytes (spell (line_on bytes)) made.0))
     (add_reached fs ps ls body (line_on bytes) r so may is (line_fits bytes are) made.1)
 
@@ -314,7 +308,7 @@ between_reached : (fs : List Function) (bytes : List ℕ) (r : Reader) → SoFar
 unfolding accept
 between_reached fs bytes r so e =
     let ps : List Letter = letters_on bytes in
-    let head = some_by (bytes_eq bytes (function_head (length fs) ps)) _ r e in
+    let head = some_behind (bytes_eq bytes (function_head (length fs) ps)) _ r e in
     let made = some_if (may_begin (length fs) (length ps)) (reading fs ps [] []) r head.1 in
     let same : bytes ≡ function_head (length fs) ps = same_bytes bytes (function_head (length fs) ps) head.0 in
     inside fs ps [] [] so made.0 nothing_open made.1 (ap (λ bs. text_lines fs ++ bs ∷ []) same)

@@ -1,7 +1,9 @@
 -- A text is cut into its lines in one way.
-use Rattle.std.proofs.Common.{◌≡◌, ℕ, zero, suc, ◌+◌, ◌<◌, ◌^◌, ◌==◌, Bool, true, false, not, ◌&&◌, if◌then◌else◌, List, [], ◌∷◌}
+use Rattle.std.proofs.Common.{◌≡◌, ℕ, zero, suc, ◌+◌, ◌<◌, ◌^◌, ◌==◌, Bool, true, false, not, if◌then◌else◌, List, [], ◌∷◌}
 use Rattle.std.proofs.Common.{◌++◌, map, length, get_or, take, drop, refl, sym, ◌∙◌, ap, arith, append_assoc, eqb-true}
 use Rattle.std.specs.List.{AllByRecursion}
+use Rattle.std.proofs.lemmas.Bool.{not-true}
+use Rattle.a95_base.proofs.Tests.{and_second, and_first}
 use Rattle.loop_tree.specs.declared.tree.CodeLine.{CodeLine}
 use Rattle.loop_tree.specs.declared.tree.CodeLine.TheVariants as code
 use Rattle.loop_tree.specs.declared.tree.Function.{Function}
@@ -21,33 +23,21 @@ no_feed c cs e = rw e refl
 
 -- ---- a line, its line feed, and more
 
-and_left : (a b : Bool) → (a && b) ≡ true → a ≡ true
-and_left true b e = refl
-and_left false b e = absurd cc
-
-and_right : (a b : Bool) → (a && b) ≡ true → b ≡ true
-and_right true b e = e
-and_right false b e = absurd cc
-
-not_true : (b : Bool) → not b ≡ true → b ≡ false
-not_true true e = absurd cc
-not_true false e = refl
-
 pub line_first : (line rest : List ℕ) → is_one_line line ≡ true → split_of (line ++ 10 ∷ rest)
     ≡ split (line ∷ (split_of rest).lines) ((split_of rest).tail)
 line_first [] rest e = refl
 line_first (c ∷ cs) rest e =
-    let differs : (c == 10) ≡ false = not_true (c == 10) (and_left (not (c == 10)) (is_one_line cs) e) in
+    let differs : (c == 10) ≡ false = not-true (c == 10) (and_first (not (c == 10)) (is_one_line cs) e) in
     no_feed c (cs ++ 10 ∷ rest) differs
-    ∙ ap (λ (p : Split). byte_onto c p.lines p.tail) (line_first cs rest (and_right (not (c == 10)) (is_one_line cs) e))
+    ∙ ap (λ (p : Split). byte_onto c p.lines p.tail) (line_first cs rest (and_second (not (c == 10)) (is_one_line cs) e))
 
 -- no line feed at all
 pub only_tail : (bytes : List ℕ) → is_one_line bytes ≡ true → split_of bytes ≡ split [] bytes
 only_tail [] e = refl
 only_tail (c ∷ cs) e =
-    let differs : (c == 10) ≡ false = not_true (c == 10) (and_left (not (c == 10)) (is_one_line cs) e) in
+    let differs : (c == 10) ≡ false = not-true (c == 10) (and_first (not (c == 10)) (is_one_line cs) e) in
     no_feed c cs differs ∙ ap (λ (p : Split). byte_onto c p.lines p.tail)
-    (only_tail cs (and_right (not (c == 10)) (is_one_line cs) e))
+    (only_tail cs (and_second (not (c == 10)) (is_one_line cs) e))
 
 -- ---- the lines of a text
 

@@ -4,6 +4,7 @@ use Rattle.std.proofs.Common.{◌∷◌, ◌++◌, length, drop, codes, flat_map
 use Rattle.std.proofs.Common.{append-nil, length-append}
 use Rattle.std.proofs.lemmas.Bool.Decides.{nat_tests}
 use Rattle.std.specs.List.{AllByRecursion}
+use Rattle.a95_base.specs.Input.{is_digit}
 use Rattle.loop_tree.specs.declared.atom.Atom.{Atom}
 use Rattle.loop_tree.specs.declared.atom.Atom.TheVariants as atom
 use Rattle.loop_tree.specs.declared.atom.TextAtom.{TextAtom}
@@ -15,7 +16,7 @@ use Rattle.loop_tree.specs.declared.atom.Argument.TheVariants as argument
 use Rattle.loop_tree.specs.Text.{atom_text, is_plain, octal, byte_text, bytes_text, text_atom_text, reference_text, argument_text}
 use Rattle.loop_tree.specs.Text.{listed_by}
 use Rattle.loop_tree.specs.Program.{FitsByte, FitsAtom, FitsText, FitsReference, FitsArgument}
-use Rattle.loop_text.specs.Guess.{byte_at, is_digit, begins_atom, escape_onto, quoted_onto, behind_quote, literal_text}
+use Rattle.loop_text.specs.Guess.{byte_at, begins_atom, escape_onto, quoted_onto, behind_quote, literal_text}
 use Rattle.loop_text.specs.Guess.{variable_text, text_on, begins_text, ints_reference, texts_reference, reference_on, ArgumentOn}
 use Rattle.loop_text.specs.Guess.{int_argument, text_argument, block_argument, argument_on, arguments_onto, arguments_on}
 use Rattle.loop_text.proofs.Numbers.{index_again, atom_again, first_digit}

@@ -5,6 +5,8 @@ use Rattle.std.specs.List.{AllByRecursion}
 use Rattle.std.proofs.lemmas.Fmt.{decimal_by_steps}
 use Rattle.std.proofs.lemmas.List.Elements.{filter_map-append}
 use Rattle.std.proofs.lemmas.Bool.Decides.{nat_tests}
+use Rattle.a95_base.proofs.Texts.{bytes_same}
+use Rattle.a95_base.specs.Input.{is_digit}
 use Rattle.loop_tree.specs.declared.atom.Letter.{Letter}
 use Rattle.loop_tree.specs.declared.atom.Letter.TheVariants as letter
 use Rattle.loop_tree.specs.declared.tree.Stmt.{Stmt}
@@ -15,10 +17,10 @@ use Rattle.loop_tree.specs.Text.{spell, letter_text, listed, parameters_text, fu
 use Rattle.loop_tree.specs.Text.{text_lines}
 use Rattle.loop_tree.specs.Program.{some_leaves, main_parameters, IsFunction, IsProgram}
 use Rattle.loop_text.specs.declared.reader.Reader.{Reader}
-use Rattle.loop_text.specs.Guess.{is_digit, NumberOn}
+use Rattle.loop_text.specs.Guess.{NumberOn}
 use Rattle.loop_text.specs.Reader.{in_loop, letter_at, letters_on, may_begin, begin, add_line, accept, reads, nothing_read}
 use Rattle.loop_text.proofs.Numbers.{number_again, digit_is, digit_differs}
-use Rattle.loop_text.proofs.Completes.{reading, reads-append, bytes_same, spelled, spell-append, adds_all, each_adds}
+use Rattle.loop_text.proofs.Completes.{reading, reads-append, spelled, spell-append, adds_all, each_adds}
 
 -- ---- letters
 

@@ -2,7 +2,7 @@
 -- reader compares. Each line that is spelled right is taken for what it spells.
 -- No public clause cites this file: it says how the private functions work. What is read and what is refused stands in
 -- Refused.antt.
-use Rattle.std.specs.Prelude.{ℕ, zero, suc, ◌+◌, ◌-◌, ◌*◌, ◌%◌, ◌^◌, ◌==◌, Bool, false, ◌&&◌, ◌||◌, nat_le, nat_eq, if◌then◌else◌}
+use Rattle.std.specs.Prelude.{ℕ, zero, suc, ◌+◌, ◌-◌, ◌*◌, ◌%◌, ◌^◌, ◌==◌, Bool, false, ◌||◌, nat_eq, if◌then◌else◌}
 use Rattle.std.specs.Prelude.{List, [], ◌∷◌, ◌++◌, length, get_or, drop, codes}
 use Rattle.std.specs.List.{starts_with}
 use Rattle.std.specs.Int.{w64, cast_signed, int_wrapping_neg}
@@ -10,6 +10,7 @@ use Rattle.std.specs.Option.{unwrap_or}
 use Rattle.a95_base.specs.declared.fault.FaultKind.{FaultKind}
 use Rattle.a95_base.specs.declared.fault.FaultKind.TheVariants as kind
 use Rattle.a95_base.specs.Fault.{kind_of}
+use Rattle.a95_base.specs.Input.{is_digit}
 use Rattle.loop_tree.specs.declared.atom.Atom.{Atom}
 use Rattle.loop_tree.specs.declared.atom.Atom.TheVariants as atom
 use Rattle.loop_tree.specs.declared.atom.TextAtom.{TextAtom}
@@ -39,9 +40,6 @@ byte_at bytes place = get_or bytes place 0
 
 abbrev pub begins : List ℕ → List ℕ → Bool
 begins bytes word = starts_with nat_eq bytes word
-
-abbrev pub is_digit : ℕ → Bool
-is_digit c = nat_le 48 c && nat_le c 57
 
 -- ---- numbers
 

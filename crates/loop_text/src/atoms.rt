@@ -2,7 +2,8 @@
 //! `specs/Guess.antt` says, whatever they are.
 
 ghost use Rattle.std.specs.Prelude.{◌≡◌, [], IfOk, drop};
-ghost use Rattle.loop_text.specs.Guess.{byte_at, begins, is_digit, begins_atom, begins_text, number_on, index_on, atom_on};
+ghost use Rattle.a95_base.specs.Input.{is_digit};
+ghost use Rattle.loop_text.specs.Guess.{byte_at, begins, begins_atom, begins_text, number_on, index_on, atom_on};
 ghost use Rattle.loop_text.specs.Guess.{quoted_onto, ends_quote, escape_left, behind_quote, text_on, reference_on, argument_on};
 ghost use Rattle.loop_text.specs.Guess.{arguments_onto, arguments_on};
 

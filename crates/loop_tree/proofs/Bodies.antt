@@ -3,6 +3,7 @@ use Rattle.std.proofs.Common.{◌≡◌, ℕ, ◌<◌, ◌≤◌, max, Bool, tru
 use Rattle.std.proofs.Common.{append_assoc}
 use Rattle.std.specs.Prelude.{Result, Ok, Err, OnOk, OnErr}
 use Rattle.std.specs.List.{AllByRecursion}
+use Rattle.a95_base.proofs.Tests.{or-false, or_assoc}
 use Rattle.loop_tree.specs.declared.atom.Atom.{Atom}
 use Rattle.loop_tree.specs.declared.row.Row.{Row}
 use Rattle.loop_tree.specs.declared.tree.Stmt.{Stmt}
@@ -21,10 +22,6 @@ use Rattle.loop_tree.proofs.Trees.{leaves-ForUp, leaves-ForDown, leaves-Forever}
 pub flats-append : (a b : List Stmt) → flats (a ++ b) ≡ flats a ++ flats b
 flats-append [] b = refl
 flats-append (s ∷ a) b = ap (λ ls. flat s ++ ls) (flats-append a b) ∙ sym (append_assoc (flat s) (flats a) (flats b))
-
-or_assoc : (a b c : Bool) → ((a || b) || c) ≡ (a || (b || c))
-or_assoc true b c = refl
-or_assoc false b c = refl
 
 pub some_leaves-append : (a b : List Stmt) → some_leaves (a ++ b) ≡ (some_leaves a || some_leaves b)
 some_leaves-append [] b = refl
@@ -56,16 +53,12 @@ both_bodies room in_loop a b f g = record {
   room = f.room;
 }
 
-or_false : (a : Bool) → (a || false) ≡ a
-or_false true = refl
-or_false false = refl
-
 one_body : (room : ℕ) (in_loop : Bool) (s : Stmt) → room ≤ 999
     → Stands (record { statements = []; room = room; in_loop = in_loop }) s
     → IsBody (record { statements = s ∷ []; room = room; in_loop = in_loop })
 one_body room in_loop s small is = record {
   numbers = fit_both (flat s) [] is.numbers tt;
-  loops = λ e. is.loops (sym (or_false (leaves s)) ∙ e);
+  loops = λ e. is.loops (sym (or-false (leaves s)) ∙ e);
   braces = omega (arith, is.braces);
   room = small;
 }

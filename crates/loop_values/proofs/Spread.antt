@@ -12,6 +12,7 @@ use Rattle.std.proofs.lemmas.Bool.Decides.{nat_tests}
 use Rattle.std.proofs.lemmas.List.{length-replicate, get_or-append_right, get_or_append_left, get_or-replicate}
 use Rattle.std.proofs.lemmas.List.{replicate-append-replicate}
 use Rattle.std.proofs.lemmas.Result.{on_ok_weaker}
+use Rattle.a95_base.proofs.Texts.{cmp_same}
 use Rattle.loop_tree.specs.State.{with_at}
 use Rattle.loop_values.specs.Spread.{spread, IsSpaced, dense}
 
@@ -19,9 +20,6 @@ use Rattle.loop_values.specs.Spread.{spread, IsSpaced, dense}
 
 cmp_less : (n m : ℕ) → n < m → nat_cmp n m ≡ Less
 cmp_less n m h = grind (arith, nat_tests)
-
-cmp_equal : (n : ℕ) → nat_cmp n n ≡ Equal
-cmp_equal n = grind (arith, nat_tests)
 
 cmp_greater : (n m : ℕ) → m < n → nat_cmp n m ≡ Greater
 cmp_greater n m h = grind (arith, nat_tests)
@@ -133,7 +131,7 @@ get_spread {A} first n at (e ∷ es) h from = by_order (cases_lt n e.0) (cases_l
         rw differs (rest ∙ sym (get_after first e.1 n at e.0 (spread first (e.0 + 1) es) h.0 more))
     by_order (inr from_e) (inr to_e) again =
         let is : e.0 ≡ n = omega arith in
-        let same : is_at (nat_cmp n) e.0 ≡ true = ap (λ k. is_eq (nat_cmp n k)) is ∙ ap is_eq (cmp_equal n) in
+        let same : is_at (nat_cmp n) e.0 ≡ true = ap (λ k. is_eq (nat_cmp n k)) is ∙ ap is_eq (cmp_same n) in
         let read : get_or (replicate (e.0 - at) first ++ (e.1 ∷ spread first (e.0 + 1) es)) (n - at) first ≡ e.1 =
         ap (λ k. get_or (replicate (e.0 - at) first ++ (e.1 ∷ spread first (e.0 + 1) es)) (k - at) first) (sym is)
         ∙ get_at first e.1 e.0 at (spread first (e.0 + 1) es) h.0 in
@@ -187,7 +185,7 @@ set_spread {A} first n at (e ∷ es) v h from = by_order (cases_lt n e.0) (cases
         rw is stored
     by_order (inr from_e) (inr to_e) again =
         let equal : e.0 ≡ n = omega arith in
-        let is : nat_cmp n e.0 ≡ Equal = ap (nat_cmp n) equal ∙ cmp_equal n in
+        let is : nat_cmp n e.0 ≡ Equal = ap (nat_cmp n) equal ∙ cmp_same n in
         let there : length (replicate (e.0 - at) first) + 0 ≡ n - at = omega (arith, length-replicate (e.0 - at) first) in
         let stored : with_at first (spread first at (e ∷ es)) (n - at) v ≡ replicate (e.0 - at) first
         ++ (v ∷ spread first (e.0 + 1) es) =
@@ -213,7 +211,7 @@ spaced_insert {A} n at (e ∷ es) v h from = by_order (cases_lt n e.0) (cases_lt
         rw is spaced
     by_order (inr from_e) (inr to_e) again =
         let equal : e.0 ≡ n = omega arith in
-        let is : nat_cmp n e.0 ≡ Equal = ap (nat_cmp n) equal ∙ cmp_equal n in
+        let is : nat_cmp n e.0 ≡ Equal = ap (nat_cmp n) equal ∙ cmp_same n in
         let spaced : IsSpaced at ((e.0, v) ∷ es) = (h.0, h.1) in
         rw is spaced
 

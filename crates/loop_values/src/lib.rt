@@ -8,5 +8,6 @@ mod texts;
 mod variables;
 
 pub use integers::{difference, operation, power, product, sum, truth, wrap, xor};
-pub use texts::{char, code, compare, fit, index, join, left, over, right, sub, trim};
+pub use text_functions::{adjust_left as left, adjust_right as right};
+pub use texts::{char, code, compare, fit, index, join, over, sub, trim};
 pub use variables::{Links, Numbers, Words};

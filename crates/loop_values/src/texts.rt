@@ -1,8 +1,7 @@
 //! The built-ins on texts. Places are counted from 1.
-ghost use Rattle.std.specs.Prelude.{◌≡◌, ◌≤◌, [], ◌++◌, pos, length, IfOk};
+ghost use Rattle.std.specs.Prelude.{◌≡◌, ◌≤◌, ◌++◌, pos, length, IfOk};
 ghost use Rattle.std.specs.Option.{ok_or};
-ghost use Rattle.a95_base.specs.Text.{compare_padded, first_place, fit, code_of, char_of, part_of, trim, trim_front, adjust_left};
-ghost use Rattle.a95_base.specs.Text.{adjust_right};
+ghost use Rattle.a95_base.specs.Text.{compare_padded, first_place, fit, code_of, char_of, part_of, trim};
 ghost use Rattle.loop_tree.specs.declared.stuck.StuckState.TheVariants.{OutsideText, NoByte};
 ghost use Rattle.loop_tree.specs.Values.{order_number, sub, replaced, fitted};
 ghost use Rattle.loop_heap.specs.Halts.{Yields};
@@ -10,27 +9,24 @@ ghost use Rattle.loop_heap.specs.Halts.{Yields};
 use a95_base::{Bytes, compare_padded};
 use loop_heap::Halt;
 use loop_tree::StuckState;
-use memchr::memmem;
 use std::alloc::{AllocError, Global};
 use std::cmp::Ordering;
+use text_functions::{char_of, code_of, first_place, without_end_blanks};
 
 /// The first place of a part in a text, or 0.
 pub fn index(text: &[u8], part: &[u8]) -> i64
     ensures { result ≡ pos (first_place text.now part.now) }
 {
-    match memmem::find(text, part) {
-        Some(at) => at as i64 + 1,
-        None => 0,
-    }
+    first_place(text, part) as i64
 }
 
 /// The byte of a text of one byte. `OutsideText`: the text has another length.
 pub fn code(text: &[u8]) -> Result<i64, StuckState>
     ensures { result ≡ ok_or (code_of text.now) OutsideText }
 {
-    match text {
-        [byte] => Ok(i64::from(*byte)),
-        _ => Err(StuckState::OutsideText),
+    match code_of(text) {
+        Some(code) => Ok(i64::from(code)),
+        None => Err(StuckState::OutsideText),
     }
 }
 
@@ -38,9 +34,9 @@ pub fn code(text: &[u8]) -> Result<i64, StuckState>
 pub fn char(alloc: Global, code: i64) -> Result<Bytes, Halt>
     ensures { Yields (ok_or (char_of code) NoByte) result }
 {
-    match u8::try_from(code) {
-        Ok(byte) => Ok(Bytes::from_slice(alloc, &[byte])?),
-        Err(_) => Err(Halt::Stuck(StuckState::NoByte)),
+    match char_of(alloc, code)? {
+        Some(text) => Ok(text),
+        None => Err(Halt::Stuck(StuckState::NoByte)),
     }
 }
 
@@ -127,43 +123,4 @@ pub fn trim(alloc: Global, text: &[u8]) -> Result<Bytes, AllocError>
     ensures { IfOk result (λ made. made ≡ trim text.now) }
 {
     Bytes::from_slice(alloc, without_end_blanks(text))
-}
-
-/// The leading blanks moved to the end.
-pub fn left(alloc: Global, text: &[u8]) -> Result<Bytes, AllocError>
-    ensures { IfOk result (λ made. made ≡ adjust_left text.now) }
-{
-    fit_to(alloc, without_front_blanks(text), text.len())
-}
-
-/// The trailing blanks moved to the front.
-pub fn right(alloc: Global, text: &[u8]) -> Result<Bytes, AllocError>
-    ensures { IfOk result (λ made. made ≡ adjust_right text.now) }
-{
-    let kept = without_end_blanks(text);
-    let mut bytes = Vec::with_capacity(alloc, text.len())?;
-    bytes.resize(text.len() - kept.len(), b' ')?;
-    bytes.extend_from_slice(kept)?;
-    Ok(Bytes::from_vec(bytes))
-}
-
-fn without_end_blanks(text: &[u8]) -> &[u8]
-    ensures text { result.now ≡ trim text.now }
-    ensures within { length result.now ≤ length text.now }
-{
-    let mut length = text.len();
-    while length > 0 && text[length - 1] == b' ' {
-        length -= 1;
-    }
-    &text[..length]
-}
-
-fn without_front_blanks(text: &[u8]) -> &[u8]
-    ensures { result.now ≡ trim_front text.now }
-{
-    let mut start = 0;
-    while start < text.len() && text[start] == b' ' {
-        start += 1;
-    }
-    &text[start..]
 }

@@ -1,10 +1,11 @@
 -- Declarations of one scope, and names of its host.
 use Rattle.std.proofs.Common.{◌≡◌, ℕ, Bool, true, false, not, ◌&&◌, ◌||◌, cond, List, [], ◌∷◌, ◌++◌, map, Option, Some, None, refl}
-use Rattle.std.proofs.Common.{sym, ap, subst, ◌∙◌, inl, inr, arith}
-use Rattle.std.specs.List.{list_any, filter, flat_map}
+use Rattle.std.proofs.Common.{ap, ◌∙◌, arith}
+use Rattle.std.specs.List.{list_any, filter}
 use Rattle.std.specs.Option.{is_none}
-use Rattle.a95_base.specs.Lists.{Every, Pairwise, Member}
-use Rattle.a95_base.proofs.Lists.{each_from_has, Member-append_left, Member-append_right}
+use Rattle.a95_base.specs.Lists.{Every, Pairwise}
+use Rattle.a95_base.proofs.Lists.{each_from_has, Member-flat_map, no_member}
+use Rattle.std.proofs.lemmas.Bool.{or_parts}
 use Rattle.f95_tree.specs.Forms.{Word}
 use Rattle.intrinsic_table.specs.Finding.{is_word}
 use Rattle.names_types.specs.Keywords.{intrinsic_named}
@@ -15,26 +16,11 @@ use Rattle.names_types.specs.Laws.{IsOther, DeclaresEachOnce, EachDeclaredOnce, 
 
 -- ---- lists
 
-empty : {A : Type 0} (xs : List A) → ((x : A) → Member xs x → ⊥) → xs ≡ []
-empty [] h = refl
-empty (x ∷ xs) h = absurd (h x (inl refl))
-
-in_flat_map : {A B : Type 0} (f : A → List B) (xs : List A) (x : A) (y : B) → Member xs x → Member (f x) y
-    → Member (flat_map f xs) y
-in_flat_map f [] x y h m = absurd h
-in_flat_map f (z ∷ xs) x y (inl e) m = Member-append_left (f z) (flat_map f xs) y (subst (λ w. Member (f w) y) (sym e) m)
-in_flat_map f (z ∷ xs) x y (inr h) m = Member-append_right (f z) (flat_map f xs) y (in_flat_map f xs x y h m)
-
--- a test that fails on a list and one item more fails on the list, and on the item
-either_false : (a b : Bool) → (a || b) ≡ false → (a ≡ false) × (b ≡ false)
-either_false true b e = absurd (grind (arith, e))
-either_false false b e = (refl, e)
-
 any_snoc : {A : Type 0} (f : A → Bool) (xs : List A) (x : A) → list_any f (xs ++ x ∷ []) ≡ false
     → (list_any f xs ≡ false) × (f x ≡ false)
-any_snoc f [] x e = (refl, (either_false (f x) false e).0)
+any_snoc f [] x e = (refl, (or_parts (f x) false e).0)
 any_snoc f (y ∷ xs) x e =
-    let both = either_false (f y) (list_any f (xs ++ x ∷ [])) e in
+    let both = or_parts (f y) (list_any f (xs ++ x ∷ [])) e in
     let rest = any_snoc f xs x both.1 in
     (ap (λ b. b || list_any f xs) both.0 ∙ rest.0, rest.1)
 
@@ -83,8 +69,8 @@ each_once c h = (each_fresh (own_names c) c.host [] [] (entries c) h).1
 
 pub each_declared_once : EachDeclaredOnce
 each_declared_once s none = each_from_has DeclaresEachOnce (scopes s)
-    (λ c among. each_once c (empty (declared_twice_on c)
-    (λ line m. none line (is_declared_twice line (in_flat_map declared_twice_on (scopes s) c line among m)))))
+    (λ c among. each_once c (no_member (declared_twice_on c)
+    (λ line m. none line (is_declared_twice line (Member-flat_map declared_twice_on (scopes s) c line among m)))))
 
 -- ---- names of the host
 

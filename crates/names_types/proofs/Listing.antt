@@ -1,12 +1,12 @@
 -- The list of a source's breaks, rule by rule.
-use Rattle.std.proofs.Common.{ℕ, List, [], ◌∷◌, refl, sym, subst, inl, inr, ◌≡◌, None}
+use Rattle.std.proofs.Common.{ℕ, List, [], ◌∷◌, refl, sym, subst, inl, inr, ◌≡◌}
 use Rattle.a95_base.specs.declared.breaks.Break.{Break}
-use Rattle.a95_base.specs.Breaks.{AreBroken, broken_at, first_of}
+use Rattle.a95_base.specs.Breaks.{AreBroken, broken_at}
 use Rattle.a95_base.specs.Lists.{Member}
 use Rattle.a95_base.specs.Rules.{declared_twice, undeclared, wrong_attributes, wrong_dummy, not_constant, constant_faults}
 use Rattle.a95_base.specs.Rules.{rank_too_great, wrong_length, shape_too_large, unknown_use, host_variable, wrong_result}
 use Rattle.a95_base.specs.Rules.{no_specification_expression}
-use Rattle.a95_base.proofs.First.{first_is_least}
+use Rattle.a95_base.proofs.First.{first_is_least, none_among}
 use Rattle.a95_base.proofs.Lists.{Member-append_left, Member-append_right, Member-append_cases, Member-map, Member-from_map}
 use Rattle.names_types.specs.Plain.{Source}
 use Rattle.names_types.specs.Rules.{declared_twice_on, undeclared_on, wrong_attributes_on, wrong_dummy_on, not_constant_on}
@@ -115,10 +115,6 @@ listed_are_broken s = are_broken (source_of s)
 pub first_is_least_of : FirstIsLeast
 first_is_least_of s b e = first_is_least (IsBroken s) (breaks_of (source_of s)) b (listed_are_broken s) e
 
-empty_or_first : (bs : List Break) → first_of bs ≡ None → (b : Break) → Member bs b → ⊥
-empty_or_first [] e b m = m
-empty_or_first (c ∷ cs) e b m = cc
-
 pub none_is_unbroken : NoneIsUnbroken
 none_is_unbroken s e line rule h =
-    empty_or_first (breaks_of (source_of s)) e (broken_at line rule) ((listed_are_broken s).complete line rule h)
+    none_among (breaks_of (source_of s)) e (broken_at line rule) ((listed_are_broken s).complete line rule h)

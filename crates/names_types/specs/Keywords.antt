@@ -2,6 +2,7 @@
 use Rattle.std.specs.Prelude.{ℕ, ◌+◌, ◌*◌, ◌-◌, ◌==◌, nat_le, Bool, ◌&&◌, if◌then◌else◌, List, [], ◌∷◌, ◌++◌, fold, Option, Some}
 use Rattle.std.specs.Prelude.{None}
 use Rattle.std.specs.List.{list_all, position_from}
+use Rattle.a95_base.specs.Input.{is_digit}
 use Rattle.f95_tree.specs.Forms.{Word}
 use Rattle.intrinsic_table.specs.declared.intrinsic.Intrinsic.{Intrinsic}
 use Rattle.intrinsic_table.specs.Finding.{is_word, first_named, beginning}
@@ -17,9 +18,6 @@ intrinsic_named (byte ∷ more) = first_named (beginning byte) (byte ∷ more)
 -- the number that digits write
 abbrev pub number_written : List ℕ → ℕ
 number_written digits = fold (λ n digit. n * 10 + (digit - 48)) 0 digits
-
-abbrev pub is_digit : ℕ → Bool
-is_digit byte = nat_le 48 byte && nat_le byte 57
 
 -- the digits of a number of at most 32 bits, the first of which isn't 0
 abbrev pub is_numeral : List ℕ → Bool

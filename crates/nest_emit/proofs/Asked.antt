@@ -5,6 +5,7 @@ use Rattle.std.proofs.lemmas.List.{length-map}
 use Rattle.a95_base.specs.declared.scalar.Scalar.{Scalar}
 use Rattle.a95_base.specs.declared.scalar.Scalar.TheVariants as scalar
 use Rattle.a95_base.specs.Lists.{Every}
+use Rattle.std.proofs.lemmas.Bool.{and_parts}
 use Rattle.array_meaning.specs.Values.{text_of, size_of}
 use Rattle.array_meaning.specs.State.{Dimension as Bounds, extent_of, extents_of, Array}
 use Rattle.nest_tree.specs.declared.access.Name.{Name}
@@ -35,7 +36,7 @@ use Rattle.nest_emit.specs.Emits.{emits_question}
 use Rattle.nest_emit.specs.Meets.{DoesAt}
 use Rattle.nest_emit.specs.Kin.{Shows, cells_of as block_cells, held, cells_held, block_of, BoundsAt, Narrow, Stands, StandsIf}
 use Rattle.nest_emit.proofs.Runs.{sees_it}
-use Rattle.nest_emit.proofs.Values.{some_is, sort_if_some, both_true, reference_is, there_is}
+use Rattle.nest_emit.proofs.Values.{some_is, sort_if_some, reference_is, there_is}
 use Rattle.nest_emit.proofs.Rows.{read_atom, set_does}
 use Rattle.nest_emit.proofs.Indices.{small_wrap}
 use Rattle.nest_emit.proofs.Arrays.{living}
@@ -93,7 +94,7 @@ own_sort (Some d) test h = (sort_of_type d.of, refl)
 dimension_sort : (q : Procedure) (n : Name) (dim : ℕ) → has_dimension q n dim ≡ true → (s : Sort) × (sort_of_name q n ≡ Some s)
 dimension_sort q (name.Own i) dim h = own_sort (slice_get q.variables i) (λ d. nat_le 1 dim && nat_le dim d.rank) h
 dimension_sort q (name.Temp t) dim h = there_is (slice_get q.blocks t)
-    (both_true (nat_le 1 dim && nat_le dim 7) (is_some (slice_get q.blocks t)) h).1
+    (and_parts (nat_le 1 dim && nat_le dim 7) (is_some (slice_get q.blocks t)) h).1
 
 -- ---- blocks
 

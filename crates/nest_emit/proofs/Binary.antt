@@ -11,6 +11,7 @@ use Rattle.a95_base.specs.Integer.{wrapped, quotient_of}
 use Rattle.a95_base.specs.Text.{compare_padded}
 use Rattle.a95_base.specs.Steps.{behind, ◌>>=◌}
 use Rattle.a95_base.proofs.Wrapping.{wrapped-int_wrap}
+use Rattle.std.proofs.lemmas.Bool.{and_parts, not-true, not-false}
 use Rattle.f95_unit.specs.declared.operation.BinaryOp.{BinaryOp}
 use Rattle.f95_unit.specs.declared.operation.BinaryOp.TheVariants as binary
 use Rattle.array_meaning.specs.Values.{integer_of, truth_of, text_of}
@@ -40,7 +41,7 @@ use Rattle.nest_emit.specs.Meets.{DoesAt}
 use Rattle.nest_emit.specs.Emits.{emits_binary}
 use Rattle.nest_emit.specs.Kin.{Around, Kin, Keeps, Shows}
 use Rattle.nest_emit.proofs.Runs.{told, guard_does}
-use Rattle.nest_emit.proofs.Values.{both_true, sort_if_some, int_shown, truth_shown, text_shown}
+use Rattle.nest_emit.proofs.Values.{sort_if_some, int_shown, truth_shown, text_shown}
 use Rattle.nest_emit.proofs.Rows.{read_compare, read_join, adds, subtracts, multiplies, set_does, say_does, compute_does, computed_does}
 use Rattle.nest_emit.proofs.Kin.{keeps_then}
 use Rattle.nest_emit.proofs.Comparisons.{order_test, order_of_number}
@@ -91,14 +92,6 @@ no_quotient x y h = rw h refl
 some_quotient : (x y : ℤ) → int_eq y (pos 0) ≡ false →
     integer_or fault.ZeroDivide (quotient_of x y) ≡ Ok (scalar.Int (wrapped (int_div x y)))
 some_quotient x y h = rw h refl
-
-pub not_false : (b : Bool) → not b ≡ true → b ≡ false
-not_false true h = cc
-not_false false h = refl
-
-pub not_true : (b : Bool) → not b ≡ false → b ≡ true
-not_true true h = refl
-not_true false h = cc
 
 pub fault_given : (line : ℕ) (kind : FaultKind) (r : Result Scalar FaultKind) (go : Scalar → Step (Unit {0})) (n : NestState) →
     r ≡ Err kind →
@@ -153,7 +146,7 @@ Fitting o p asked given s = (some_serves o asked ≡ true) × (some_serves p ask
 fitting : (o p : Option Sort) (asked given s : Sort) → sort_if (both_serve o p asked) given ≡ Some s → Fitting o p asked given s
 fitting o p asked given s h =
     let is = sort_if_some (both_serve o p asked) given s h in
-    let two = both_true (some_serves o asked) (some_serves p asked) is.0 in
+    let two = and_parts (some_serves o asked) (some_serves p asked) is.0 in
     (two.0, two.1, is.1)
 
 or_false : (a : Bool) → (a || false) ≡ true → a ≡ true
@@ -266,7 +259,7 @@ module _ {functions : List Function} {limit : ℕ} {q : Procedure} {around : Aro
   divided left right next =
       guard_does line fault.ZeroDivide n ((given line (binary_of binary.Divide x y) >>= go) n) b
       (computed t a operator.Divide b) lines at_line
-      (λ h. let some : int_eq (value_of w b) (pos 0) ≡ false = not_false (int_eq (value_of w b) (pos 0)) h in
+      (λ h. let some : int_eq (value_of w b) (pos 0) ≡ false = not-true (int_eq (value_of w b) (pos 0)) h in
       let other : int_eq (integer_of y) (pos 0) ≡ false = ap (λ j. int_eq j (pos 0)) (sym (int_shown right)) ∙ some in
       let value = int_div (integer_of x) (integer_of y) in
       computed_does t w lines free kin a operator.Divide b _ (divides (value_of w a) (value_of w b) some) (λ u k keep there.
@@ -277,7 +270,7 @@ module _ {functions : List Function} {limit : ℕ} {q : Procedure} {around : Aro
       ∙ ap (λ i. wrapped (int_div i (value_of w b))) (int_shown left)
       ∙ ap (λ j. wrapped (int_div (integer_of x) j)) (int_shown right))))))
       (λ h. fault_given line fault.ZeroDivide (binary_of binary.Divide x y) go n (no_quotient (integer_of x) (integer_of y)
-      (ap (λ j. int_eq j (pos 0)) (sym (int_shown right)) ∙ not_true (int_eq (value_of w b) (pos 0)) h)))
+      (ap (λ j. int_eq j (pos 0)) (sym (int_shown right)) ∙ not-false (int_eq (value_of w b) (pos 0)) h)))
 
   pub binary_does : (op : BinaryOp) (texts : Bool) → emits_binary op ≡ true →
       Shows (asks op texts) (value_of w a) (bytes_of w c) x → Shows (asks op texts) (value_of w b) (bytes_of w d) y →

@@ -22,12 +22,14 @@ use Rattle.nest_emit.specs.Trees.{cell_lines, atom_of, place_atom, place_lines, 
 use Rattle.nest_emit.specs.Emits.{is_whole, is_computed, emits_access}
 use Rattle.nest_emit.specs.Meets.{DoesAt}
 use Rattle.nest_emit.specs.Kin.{Shows, cells_of as block_cells, held, block_of, cells_held, Stands, StandsIf}
-use Rattle.nest_emit.proofs.Values.{some_is, both_true, sort_if_some, exact_shown, array_below, there_is, choice_is}
+use Rattle.nest_emit.proofs.Values.{some_is, sort_if_some, exact_shown, array_below, there_is}
 use Rattle.nest_emit.proofs.Rows.{set_does, read_atom}
 use Rattle.nest_emit.proofs.Indices.{number_below, small_wrap}
 use Rattle.nest_emit.proofs.Runs.{regroup, sees_it, parts}
 use Rattle.nest_emit.proofs.Kin.{keeps_then}
 use Rattle.std.specs.List.{list_all}
+use Rattle.std.proofs.lemmas.Bool.{and_parts}
+use Rattle.a95_base.proofs.Tests.{some_behind}
 use Rattle.nest_emit.proofs.Places.{place_does}
 use Rattle.nest_tree.specs.Statements.{Caller, applied}
 use Rattle.nest_emit.proofs.Leaves.{cell_does}
@@ -105,8 +107,8 @@ module _ (functions : List Function) (limit : ℕ) (c : Scope) (nests : ℕ) (ca
       Evaluates functions limit c nests calls line turn (Cell n x)
   cell_law n x law = record {
     does = λ s is t free {around} {n = st} {w} kin turned at {lines} {braces} go next.
-        let fit = choice_is (is_block c.own n && some_serves (sort_of c x) sort.Exact) (sort_of_name c.own n) s is in
-        let two = both_true (is_block c.own n) (some_serves (sort_of c x) sort.Exact) fit.0 in
+        let fit = some_behind (is_block c.own n && some_serves (sort_of c x) sort.Exact) (sort_of_name c.own n) s is in
+        let two = and_parts (is_block c.own n) (some_serves (sort_of c x) sort.Exact) fit.0 in
         let array = array_number c.own n in
         let a = atom_of c nests t x in
         regroup (element cells_of c.unit.constants (applied calls) line turn x)
@@ -133,14 +135,14 @@ module _ (functions : List Function) (limit : ℕ) (c : Scope) (nests : ℕ) (ca
   place_law a emits = record {
     does = λ s is t free {around} {n} {w} kin turned at {lines} {braces} go next.
         let e = sort_if_some (fits_access c a && is_some (sort_of_name c.own a.name)) sort.Exact s is in
-        let fit = both_true (fits_access c a) (is_some (sort_of_name c.own a.name)) e.0 in
+        let fit = and_parts (fits_access c a) (is_some (sort_of_name c.own a.name)) e.0 in
         let r = there_is (sort_of_name c.own a.name) fit.1 in
-        let two = both_true (list_all (λ d. is_computed d.along) a.dimensions) (is_whole a.portion) emits in
+        let two = and_parts (list_all (λ d. is_computed d.along) a.dimensions) (is_whole a.portion) emits in
         let q = c.own in
         let array = array_number q a.name in
-        let both = both_true (has_rank q a.name (length a.dimensions) && list_all (λ d. fits_along c d.along) a.dimensions)
+        let both = and_parts (has_rank q a.name (length a.dimensions) && list_all (λ d. fits_along c d.along) a.dimensions)
         (fits_portion q a.name a.portion) fit.0 in
-        let alongs = both_true (has_rank q a.name (length a.dimensions)) (list_all (λ d. fits_along c d.along) a.dimensions)
+        let alongs = and_parts (has_rank q a.name (length a.dimensions)) (list_all (λ d. fits_along c d.along) a.dimensions)
         both.0 in
         let m = memory_of n.cells in
         let at_place = place_atom q nests t a.dimensions in

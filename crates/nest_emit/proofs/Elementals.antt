@@ -13,6 +13,9 @@ use Rattle.a95_base.specs.Text.{adjust_left, adjust_right}
 use Rattle.a95_base.specs.Steps.{◌>>=◌}
 use Rattle.a95_base.proofs.Quotients.{left_over}
 use Rattle.a95_base.proofs.Wrapping.{wrapped-int_wrap, wrapped_fits, fits_wrapped}
+use Rattle.std.proofs.lemmas.Bool.{and_parts, not-true, not-false}
+use Rattle.a95_base.proofs.Moduli.{some_divisor}
+use Rattle.a95_base.proofs.Tests.{clash}
 use Rattle.f95_unit.specs.declared.operation.Elemental.{Elemental}
 use Rattle.f95_unit.specs.declared.operation.Elemental.TheVariants as elemental
 use Rattle.array_meaning.specs.Values.{nothing, integer_of, text_of, argument_of}
@@ -44,9 +47,9 @@ use Rattle.nest_emit.specs.Emits.{emits_elemental}
 use Rattle.nest_emit.specs.Meets.{DoesAt}
 use Rattle.nest_emit.specs.Kin.{Shows, Around, Kin, Keeps}
 use Rattle.nest_emit.proofs.Runs.{told, guard_does, either_does, behind_else, behind_close}
-use Rattle.nest_emit.proofs.Values.{some_is, shows_as, both_true, sort_if_some, served, shows_serves, int_shown, text_shown, clash}
+use Rattle.nest_emit.proofs.Values.{some_is, shows_as, sort_if_some, served, shows_serves, int_shown, text_shown}
 use Rattle.nest_emit.proofs.Rows.{read_atom, read_wrap, subtracts, is_less, set_does, say_does, compute_does}
-use Rattle.nest_emit.proofs.Binary.{not_false, not_true, fault_given, value_given}
+use Rattle.nest_emit.proofs.Binary.{fault_given, value_given}
 use Rattle.nest_emit.proofs.Operators.{int_there, from_zero}
 use Rattle.nest_emit.proofs.Leaves.{steady}
 use Rattle.nest_emit.proofs.Kin.{keeps_then, keeps_less}
@@ -113,10 +116,10 @@ no_serve false o asked h = cc
 one_sorted : (c : Scope) (ts : Trees) (asked : Sort) → one_of (sorts_of c ts) asked ≡ true → AllSorted c ts
 one_sorted c no_tree asked h = cc
 one_sorted c (tree p x no_tree) asked h =
-    let g = (both_true (nat_eq 1 1) (some_serves (if nat_eq p 0 then sort_of c x else None) asked) h).1 in
+    let g = (and_parts (nat_eq 1 1) (some_serves (if nat_eq p 0 then sort_of c x else None) asked) h).1 in
     (sort_there (nat_eq p 0) (sort_of c x) None asked (no_serve (nat_eq p 0) (sort_of c x) asked g) g, tt)
 one_sorted c (tree p x (tree r y ts)) asked h =
-    let two = (both_true (nat_eq (suc (suc (length (sorts_of c ts)))) 1)
+    let two = (and_parts (nat_eq (suc (suc (length (sorts_of c ts)))) 1)
     (some_serves (sort_at 0 (sorts_of c (tree p x (tree r y ts)))) asked) h).0 in
     absurd (too_many (length (sorts_of c ts)) two)
   where
@@ -127,10 +130,10 @@ two_sorted : (c : Scope) (ts : Trees) (asked : Sort) → two_of (sorts_of c ts) 
 two_sorted c no_tree asked h = cc
 two_sorted c (tree p x no_tree) asked h = cc
 two_sorted c (tree p x (tree r y no_tree)) asked h =
-    let both = (both_true (nat_eq 2 2)
+    let both = (and_parts (nat_eq 2 2)
     (both_serve (sort_at 0 (sorts_of c (tree p x (tree r y no_tree)))) (sort_at 1 (sorts_of c (tree p x (tree r y no_tree))))
     asked) h).1 in
-    let each = both_true (some_serves (sort_at 0 (sorts_of c (tree p x (tree r y no_tree)))) asked)
+    let each = and_parts (some_serves (sort_at 0 (sorts_of c (tree p x (tree r y no_tree)))) asked)
     (some_serves (sort_at 1 (sorts_of c (tree p x (tree r y no_tree)))) asked) both in
     by (nat_eq p 0) refl each.0 each.1
   where
@@ -164,7 +167,7 @@ two_sorted c (tree p x (tree r y no_tree)) asked h =
             let one = no_serve (nat_eq r 1) (sort_of c y) asked k' in
             absurd (apart r here one)
 two_sorted c (tree p x (tree r y (tree k z ts))) asked h =
-    let three = (both_true (nat_eq (suc (suc (suc (length (sorts_of c ts))))) 2)
+    let three = (and_parts (nat_eq (suc (suc (suc (length (sorts_of c ts))))) 2)
     (both_serve (sort_at 0 (sorts_of c (tree p x (tree r y (tree k z ts)))))
     (sort_at 1 (sorts_of c (tree p x (tree r y (tree k z ts))))) asked) h).0 in
     absurd (too_many (length (sorts_of c ts)) three)
@@ -217,11 +220,6 @@ argument_still c nests place asked t (tree p x ts) free h {v} {u} keep =
 
 -- ---- values
 
-divisor : (p : ℤ) → int_eq p (pos 0) ≡ false → 0 < unsigned_abs p
-divisor (pos zero) e = cc
-divisor (pos (suc n)) e = omega arith
-divisor (negsuc n) e = omega arith
-
 not_zero : (p : ℤ) → int_eq p (pos 0) ≡ false → p ≡ pos 0 → ⊥
 not_zero p e h = clash (int_eq p (pos 0)) ((Decides-int_eq p (pos 0)).1 h) e
 
@@ -234,7 +232,7 @@ abs_few (pos k) f = omega (arith, f)
 abs_few (negsuc k) f = omega (arith, f)
 
 remainder_fits : (a p : ℤ) → int_eq p (pos 0) ≡ false → wrapped p ≡ p → wrapped (int_rem a p) ≡ int_rem a p
-remainder_fits a p e f = wrapped_fits (int_rem a p) (small_rest (int_rem a p) (unsigned_abs p) (rem_below a p (divisor p e))
+remainder_fits a p e f = wrapped_fits (int_rem a p) (small_rest (int_rem a p) (unsigned_abs p) (rem_below a p (some_divisor p e))
     (abs_few p (subst (λ y. FitsSigned w32 y) f (fits_wrapped p))))
 
 remains : (x y : ℤ) → int_eq y (pos 0) ≡ false → operation operator.Remainder x y ≡ Ok (int_rem x y)
@@ -311,7 +309,7 @@ module _ {functions : List Function} {limit : ℕ} (c : Scope) {around : Around}
       ((given line (elemental_of elemental.Abs xs) >>= go) n)
   abs_does h next =
       let test = t + count_trees ts in
-      let fit = (both_true (nat_eq (length (sorts_of c ts)) 1) (some_serves (sort_at 0 (sorts_of c ts)) sort.Int) h).1 in
+      let fit = (and_parts (nat_eq (length (sorts_of c ts)) 1) (some_serves (sort_at 0 (sorts_of c ts)) sort.Int) h).1 in
       let sh = argument_shown c nests w 0 sort.Int t ts xs shown fit in
       let value : value_of w (first_atom c nests t ts xs) ≡ (first_number c nests t ts xs) = int_shown sh in
       let first = compute t (atom.Number (pos 0)) operator.Subtract (first_atom c nests t ts xs) ∷ [] in
@@ -365,9 +363,9 @@ module _ {functions : List Function} {limit : ℕ} (c : Scope) {around : Around}
       (first_words c nests t ts xs)) ++ lines) braces
       ((given line (elemental_of elemental.Mod xs) >>= go) n)
   mod_does h next =
-      let two = both_true (nat_eq (length (sorts_of c ts)) 2)
+      let two = and_parts (nat_eq (length (sorts_of c ts)) 2)
       (both_serve (sort_at 0 (sorts_of c ts)) (sort_at 1 (sorts_of c ts)) sort.Int) h in
-      let fits = both_true (some_serves (sort_at 0 (sorts_of c ts)) sort.Int) (some_serves (sort_at 1 (sorts_of c ts)) sort.Int)
+      let fits = and_parts (some_serves (sort_at 0 (sorts_of c ts)) sort.Int) (some_serves (sort_at 1 (sorts_of c ts)) sort.Int)
       two.1 in
       let left = int_shown (argument_shown c nests w 0 sort.Int t ts xs shown fits.0) in
       let sh = argument_shown c nests w 1 sort.Int t ts xs shown fits.1 in
@@ -375,7 +373,7 @@ module _ {functions : List Function} {limit : ℕ} (c : Scope) {around : Around}
       let result = elemental_of elemental.Mod xs in
       guard_does line fault.ZeroDivide n ((given line result >>= go) n) (next_atom c nests t ts xs)
       (compute t (first_atom c nests t ts xs) operator.Remainder (next_atom c nests t ts xs) ∷ []) lines at_line
-      (λ h'. let some : int_eq (value_of w (next_atom c nests t ts xs)) (pos 0) ≡ false = not_false
+      (λ h'. let some : int_eq (value_of w (next_atom c nests t ts xs)) (pos 0) ≡ false = not-true
       (int_eq (value_of w (next_atom c nests t ts xs)) (pos 0)) h' in
       let other : int_eq (next_number c nests t ts xs) (pos 0) ≡ false = ap (λ j. int_eq j (pos 0)) (sym right) ∙ some in
       compute_does t w [] lines free kin (first_atom c nests t ts xs) operator.Remainder (next_atom c nests t ts xs) _
@@ -389,7 +387,7 @@ module _ {functions : List Function} {limit : ℕ} (c : Scope) {around : Around}
       }))))
       (λ h'. fault_given line fault.ZeroDivide result go n
       (no_remainder (first_number c nests t ts xs) (next_number c nests t ts xs)
-      (ap (λ j. int_eq j (pos 0)) (sym right) ∙ not_true (int_eq (value_of w (next_atom c nests t ts xs)) (pos 0)) h')))
+      (ap (λ j. int_eq j (pos 0)) (sym right) ∙ not-false (int_eq (value_of w (next_atom c nests t ts xs)) (pos 0)) h')))
 
   adjusted : (which : Elemental) (f : List ℕ → List ℕ) → one_of (sorts_of c ts) sort.Text ≡ true → (row_value : TextValue) →
       text_read w row_value ≡ Ok (f (bytes_of w (first_words c nests t ts xs))) →
@@ -399,7 +397,7 @@ module _ {functions : List Function} {limit : ℕ} (c : Scope) {around : Around}
       DoesAt functions limit n u lines braces (go z n)) →
       DoesAt functions limit n w (flats (say t row_value ∷ []) ++ lines) braces ((given line (elemental_of which xs) >>= go) n)
   adjusted which f h row_value read is next =
-      let fit = (both_true (nat_eq (length (sorts_of c ts)) 1) (some_serves (sort_at 0 (sorts_of c ts)) sort.Text) h).1 in
+      let fit = (and_parts (nat_eq (length (sorts_of c ts)) 1) (some_serves (sort_at 0 (sorts_of c ts)) sort.Text) h).1 in
       let sh = argument_shown c nests w 0 sort.Text t ts xs shown fit in
       say_does t w [] lines free kin row_value (f (bytes_of w (first_words c nests t ts xs))) read (λ u k keep there.
       told (value_given line (scalar.Text (f (text_of (argument_of nothing 0 xs)))) (elemental_of which xs) go n is)

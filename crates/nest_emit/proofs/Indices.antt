@@ -5,11 +5,11 @@ use Rattle.std.specs.Int.{w64, int_wrap}
 use Rattle.std.proofs.Math.Nat.{mul-le-mul_left, mul-suc}
 use Rattle.std.proofs.lemmas.Bool.Decides.{nat_tests}
 use Rattle.std.proofs.lemmas.Int.{ints, int_wrap_fits, SFits-int_wrap, int_wrap-add_same, int_wrap-add_right, int_wrap-add_left, int_wrap-mul_left, int_wrap-mul_right}
+use Rattle.std.proofs.lemmas.Bool.{and_parts}
 use Rattle.array_meaning.specs.State.{Dimension as Bounds, extent_of, extents_of}
 use Rattle.array_meaning.specs.Values.{size_of}
 use Rattle.nest_tree.specs.Places.{numbered, number_within}
 use Rattle.nest_tree.specs.Elements.{least_exact}
-use Rattle.nest_emit.proofs.Values.{both_true}
 
 -- ---- order
 
@@ -60,7 +60,7 @@ numbered_by : (d : Bounds) (z : ℤ) (m k : ℕ) (t : Bool) → (int_le d.lower 
     (if t then Some (unsigned_abs (z -ℤ d.lower) + extent_of d * m) else None) ≡ Some k → Numbered d (Some z) (Some m) k
 numbered_by d z m k false e h = cc
 numbered_by d z m k true e h =
-    let two = both_true (int_le d.lower z) (int_le z d.upper) e in
+    let two = and_parts (int_le d.lower z) (int_le z d.upper) e in
     let in_it = within d.lower z d.upper two.0 two.1 in
     let number : unsigned_abs (z -ℤ d.lower) + extent_of d * m ≡ k = cc in
     record {

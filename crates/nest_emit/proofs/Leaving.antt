@@ -3,9 +3,8 @@ use Rattle.std.proofs.Common.{◌≡◌, ℕ, zero, suc, Bool, true, false, List
 use Rattle.a95_base.specs.Lists.{rest_of}
 use Rattle.a95_base.specs.Steps.{◌>>=◌}
 use Rattle.a95_base.proofs.Steps.{left_unit}
-use Rattle.array_meaning.specs.Control.{Flow, Next, Exits, Cycles, Returns}
+use Rattle.array_meaning.specs.Control.{Flow, Next, Exits, Cycles, Returns, behind, behind_turn}
 use Rattle.nest_tree.specs.State.{NestState, Step}
-use Rattle.nest_tree.specs.Statements.{behind, behind_turn}
 use Rattle.nest_tree.specs.Sound.{Scope, one_deeper}
 use Rattle.loop_tree.specs.declared.row.ControlRow.TheVariants as control
 use Rattle.loop_tree.specs.declared.tree.CodeLine.{CodeLine}

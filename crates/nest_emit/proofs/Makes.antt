@@ -1,5 +1,5 @@
 -- A statement that makes an array: its bounds, its block, and what it starts with.
-use Rattle.std.proofs.Common.{◌≡◌, ◌≢◌, ◌⊎◌, inl, inr, ℕ, zero, suc, ◌+◌, ◌<◌, ◌≤◌, Bool, true, false, ◌&&◌, List, [], ◌∷◌, ◌++◌, Option, Some, None, refl, sym, ap, ◌∙◌, subst, arith, ℤ, pos, length, nat_le, ◌^◌, not, if◌then◌else◌, ◌||◌}
+use Rattle.std.proofs.Common.{◌≡◌, ◌≢◌, ◌⊎◌, inl, inr, ℕ, zero, suc, ◌+◌, ◌<◌, ◌≤◌, Bool, true, false, ◌&&◌, List, [], ◌∷◌, ◌++◌, Option, Some, None, refl, sym, ap, ◌∙◌, subst, arith, ℤ, pos, length, nat_le, ◌^◌, not, if◌then◌else◌}
 use Rattle.std.specs.Prelude.{Ok, map, replicate, FitsSigned, unsigned_abs, int_lt, ◌+ℤ◌, ◌-ℤ◌, slice_get}
 use Rattle.std.specs.List.{list_all}
 use Rattle.std.proofs.Math.ListN.{length-replicate}
@@ -45,7 +45,7 @@ use Rattle.nest_emit.specs.Meets.{spot, Does, DoesAt}
 use Rattle.nest_emit.specs.Kin.{IsOf, is_text_scalar, cells_of, held, block_of, BoundsAt, Around, Kin, Narrow}
 use Rattle.nest_emit.proofs.Runs.{regroup_next, pured, changed, parts, row_gives}
 use Rattle.nest_emit.proofs.Acts.{line_does}
-use Rattle.nest_emit.proofs.Values.{some_is, both_true, array_below, one_array, in_32_bits}
+use Rattle.nest_emit.proofs.Values.{some_is, array_below, one_array, in_32_bits}
 use Rattle.nest_emit.proofs.Indices.{small_wrap, Above, le_tells}
 use Rattle.nest_emit.proofs.Performs.{Performs, Placed}
 use Rattle.nest_emit.proofs.Arrays.{kin_array, same_name}
@@ -58,7 +58,7 @@ use Rattle.nest_tree.specs.declared.access.Amount.{Amount}
 use Rattle.nest_tree.specs.declared.access.Amount.TheVariants as amounts
 use Rattle.nest_emit.proofs.Comparisons.{at_most_is}
 use Rattle.nest_emit.proofs.Places.{amount_wraps}
-use Rattle.std.proofs.lemmas.Bool.{leb-true}
+use Rattle.std.proofs.lemmas.Bool.{leb-true, and_parts, or_cases}
 
 -- ---- what a new array starts with
 
@@ -158,10 +158,6 @@ positive_amount : (st : Setting) (a : Amount) → is_positive a ≡ true → Abo
 positive_amount st (amounts.Number z) h = le_tells (pos 1) z h
 positive_amount st (amounts.Kept k) h = cc
 
-either_true : (a b : Bool) → (a || b) ≡ true → (a ≡ true) ⊎ (b ≡ true)
-either_true true b h = inl refl
-either_true false b h = inr h
-
 span_narrow : {q : Procedure} {around : Around} {n : NestState} {w : Variables} (s : Span) → emits_span q s ≡ true →
     fits_amount q s.lower ≡ true →
     fits_amount q s.upper ≡ true → Kin q around n w →
@@ -169,7 +165,7 @@ span_narrow : {q : Procedure} {around : Around} {n : NestState} {w : Variables} 
 span_narrow {q} {around} {n} {w} s h low high kin = (
   amount_wraps s.lower low kin,
   extent_narrow l u (int_lt u l) refl
-      (by (either_true (is_positive s.lower) (is_integer q s.lower && is_integer q s.upper) h)),
+      (by (or_cases (is_positive s.lower) (is_integer q s.lower && is_integer q s.upper) h)),
 )
   where
     l : ℤ
@@ -182,7 +178,7 @@ span_narrow {q} {around} {n} {w} s h low high kin = (
         (above : Above l u) → above.by + 1 < 2 ^ 63
     by (inl up) = few_up l u (positive_amount n.cells.temps.setting s.lower up) (fits_exact u (amount_wraps s.upper high kin))
     by (inr both) =
-        let two = both_true (is_integer q s.lower) (is_integer q s.upper) both in
+        let two = and_parts (is_integer q s.lower) (is_integer q s.upper) both in
         few_ints l u (integer_amount s.lower two.0 kin) (integer_amount s.upper two.1 kin)
 
 spans_narrow : {q : Procedure} {around : Around} {n : NestState} {w : Variables} (spans : List Span) →
@@ -191,10 +187,10 @@ spans_narrow : {q : Procedure} {around : Around} {n : NestState} {w : Variables}
     Every Narrow (bounds_for n.cells.temps.setting spans)
 spans_narrow [] h g kin = tt
 spans_narrow {q} {around} {n} {w} (s ∷ spans) h g kin =
-    let one = both_true (emits_span q s) (list_all (emits_span q) spans) h in
-    let fit = both_true (fits_amount q s.lower && fits_amount q s.upper)
+    let one = and_parts (emits_span q s) (list_all (emits_span q) spans) h in
+    let fit = and_parts (fits_amount q s.lower && fits_amount q s.upper)
     (list_all (λ s'. fits_amount q s'.lower && fits_amount q s'.upper) spans) g in
-    let two = both_true (fits_amount q s.lower) (fits_amount q s.upper) fit.0 in
+    let two = and_parts (fits_amount q s.lower) (fits_amount q s.upper) fit.0 in
     (span_narrow s one.0 two.0 two.1 kin, spans_narrow spans one.1 fit.1 kin)
 
 -- ---- the new block
@@ -313,15 +309,15 @@ module _ (functions : List Function) (limit : ℕ) (c : Scope) (nests : ℕ) (ca
   make_law line b emits fits = record {
     does = λ t free {around} {n} {w} enough kin turned {lines} {braces} go out next.
         let q = c.own in
-        let emitted = both_true (is_number_blank b.blank) (list_all (emits_span q) b.bounds) emits in
+        let emitted = and_parts (is_number_blank b.blank) (list_all (emits_span q) b.bounds) emits in
         let number = emitted.0 in
-        let three = both_true
+        let three = and_parts
         (may_make b.made q b.name && served_by (sort_of_name q b.name) (Some (sort_of_blank b.blank)) && fits_blank q b.blank)
         (fits_spans q b.name b.bounds) fits in
-        let two = both_true (may_make b.made q b.name && served_by (sort_of_name q b.name) (Some (sort_of_blank b.blank)))
+        let two = and_parts (may_make b.made q b.name && served_by (sort_of_name q b.name) (Some (sort_of_blank b.blank)))
         (fits_blank q b.blank) three.0 in
-        let one = both_true (may_make b.made q b.name) (served_by (sort_of_name q b.name) (Some (sort_of_blank b.blank))) two.0 in
-        let spans = both_true (has_rank q b.name (length b.bounds))
+        let one = and_parts (may_make b.made q b.name) (served_by (sort_of_name q b.name) (Some (sort_of_blank b.blank))) two.0 in
+        let spans = and_parts (has_rank q b.name (length b.bounds))
         (list_all (λ s. fits_amount q s.lower && fits_amount q s.upper) b.bounds) three.1 in
         let s = made_sort (sort_of_name q b.name) (sort_of_blank b.blank) one.1 in
         let few : length b.bounds ≤ 7 = placed.ranks b.name (length b.bounds) spans.0 in
@@ -341,7 +337,7 @@ module _ (functions : List Function) (limit : ℕ) (c : Scope) (nests : ℕ) (ca
         regroup_next (changes (made_block b)) (pure Next) go n
         (changed (made_block b) last n (λ new e.
         let did = made_is (may_be_made b.made x bounds) result new e in
-        let fit = both_true (nat_le size most_elements) (has_length b.made x) did.0 in
+        let fit = and_parts (nat_le size most_elements) (has_length b.made x) did.0 in
         let small : size ≤ most_elements = leb-true size most_elements fit.0 in
         subst (λ (nm : Memory). DoesAt functions limit n w
         (flats (at_line line ∷ (rows ++ (make_ints b.made array t ∷ []))) ++ lines) braces (last tt (with_memory n nm))) did.1

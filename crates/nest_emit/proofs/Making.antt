@@ -6,6 +6,7 @@ use Rattle.std.specs.Int.{w64, int_wrap}
 use Rattle.std.proofs.lemmas.Int.{ints, int_wrap-add_left}
 use Rattle.std.proofs.lemmas.List.{length-map}
 use Rattle.a95_base.specs.Steps.{Ran}
+use Rattle.std.proofs.lemmas.Bool.{and_parts}
 use Rattle.array_meaning.specs.Values.{size_of}
 use Rattle.array_meaning.specs.State.{dimension, extent_of, extents_of}
 use Rattle.nest_tree.specs.declared.access.Amount.{Amount}
@@ -39,7 +40,7 @@ use Rattle.nest_emit.specs.Statements.{bounds_lines}
 use Rattle.nest_emit.specs.Meets.{DoesAt}
 use Rattle.nest_emit.specs.Kin.{BoundsAt, Around, Kin}
 use Rattle.nest_emit.proofs.Runs.{parts, row_gives, either_does, behind_else, behind_close}
-use Rattle.nest_emit.proofs.Values.{both_true, served, scalar_below}
+use Rattle.nest_emit.proofs.Values.{served, scalar_below}
 use Rattle.nest_emit.proofs.Rows.{read_atom, read_operation, adds, subtracts, multiplies, is_less}
 use Rattle.nest_emit.proofs.Comparisons.{at_most_is}
 use Rattle.nest_emit.proofs.Indices.{le_tells, wrap_product, small_wrap}
@@ -174,9 +175,9 @@ module _ {functions : List Function} {limit : ℕ} {q : Procedure} {around : Aro
       let u = amount st s.upper in
       let low = lower_number array dim in
       let extent = extent_number array dim in
-      let two = both_true (fits_amount q s.lower && fits_amount q s.upper)
+      let two = and_parts (fits_amount q s.lower && fits_amount q s.upper)
       (list_all (λ s. fits_amount q s.lower && fits_amount q s.upper) spans) fits in
-      let one = both_true (fits_amount q s.lower) (fits_amount q s.upper) two.0 in
+      let one = and_parts (fits_amount q s.lower) (fits_amount q s.upper) two.0 in
       let a = amount_atom q s.lower in
       let b = amount_atom q s.upper in
       let test = suc t in

@@ -3,7 +3,7 @@ use Rattle.std.proofs.Common.{◌≡◌, ◌≢◌, ◌⊎◌, inl, inr, ℕ, ze
 use Rattle.std.specs.Prelude.{FitsSigned, negsuc, map, slice_index, slice_set, int_lt, nat_eq, nat_le, nat_lt}
 use Rattle.std.specs.List.{list_all}
 use Rattle.std.specs.Int.{w64, int_wrap}
-use Rattle.std.proofs.Math.Nat.{mul-zero, zero-mul, suc-mul}
+use Rattle.std.proofs.Math.Nat.{mul-zero, zero-mul}
 use Rattle.std.proofs.lemmas.List.{get_or-set_same, get_or-set_other, length-set, length-map}
 use Rattle.std.proofs.lemmas.Bool.Decides.{nat_tests}
 use Rattle.std.proofs.lemmas.Int.{SFits-int_wrap}
@@ -11,6 +11,9 @@ use Rattle.a95_base.specs.Lists.{Every, Pairwise, Member, down_to_one}
 use Rattle.a95_base.specs.Steps.{Ran, pure, ◌>>=◌, ◌>>◌}
 use Rattle.a95_base.proofs.Permuted.{permuted_back, Permuted-Member, Permuted-Pairwise, Member-down_to_one, each_from_one}
 use Rattle.a95_base.proofs.Lists.{Every-weaker}
+use Rattle.std.proofs.lemmas.Bool.{and_parts}
+use Rattle.a95_base.proofs.Powers.{times_some}
+use Rattle.a95_base.proofs.Tests.{clash}
 use Rattle.rank_shape.specs.Order.{Level, loops_of, IsOrder}
 use Rattle.rank_shape.proofs.Orders.{loops_in_range}
 use Rattle.array_meaning.specs.Values.{size_of}
@@ -43,7 +46,7 @@ use Rattle.nest_emit.specs.Meets.{DoesAt}
 use Rattle.nest_emit.specs.Kin.{Around, Kin, AtTurn, Keeps, Stays}
 use Rattle.nest_emit.proofs.Runs.{told, regroup, regroup_next, pured, sees_it, parts, if_does, behind_close}
 use Rattle.nest_emit.proofs.Acts.{pick_true, pick_false}
-use Rattle.nest_emit.proofs.Values.{some_is, both_true, clash}
+use Rattle.nest_emit.proofs.Values.{some_is}
 use Rattle.nest_emit.proofs.Rows.{read_atom, is_less, set_does, compute_does}
 use Rattle.nest_emit.proofs.Places.{amount_shown, amount_wraps}
 use Rattle.nest_emit.proofs.Rounds.{loop_does}
@@ -78,7 +81,7 @@ module _ {functions : List Function} {limit : ℕ} {q : Procedure} {around : Aro
       DoesAt functions limit n w (flats (extent_lines q t extents) ++ lines) braces r
   extents_do [] t w lines free kin fits next = next w kin (keeps_all t w) tt
   extents_do (a ∷ extents) t w lines free kin fits next =
-      let two = both_true (fits_amount q a) (list_all (fits_amount q) extents) fits in
+      let two = and_parts (fits_amount q a) (list_all (fits_amount q) extents) fits in
       set_does t w (extent_lines q (suc t) extents) lines free kin (int_row.Atom (amount_atom q a))
       (value_of w (amount_atom q a)) refl
       (read_atom w (amount_atom q a)) (λ u k keep is.
@@ -100,10 +103,6 @@ not_positive : (z : ℤ) → int_lt (pos 0) z ≡ false → natural z ≡ 0
 not_positive (pos zero) h = refl
 not_positive (pos (suc m)) h = absurd (clash (nat_lt 0 (suc m)) (grind (arith, nat_tests)) h)
 not_positive (negsuc m) h = refl
-
-product_positive : (a b : ℕ) → 0 < a → 0 < b → 0 < a * b
-product_positive zero b h g = absurd (omega (arith, h))
-product_positive (suc a) b h g = let more : suc a * b ≡ a * b + b = suc-mul a b in omega (arith, more, g)
 
 test_is : (z : ℤ) (y : ℤ) (b : Bool) → y ≡ truth (int_lt (pos 0) z) → holds y ≡ b → int_lt (pos 0) z ≡ b
 test_is z y b e h = sym (truth_holds (int_lt (pos 0) z)) ∙ ap holds (sym e) ∙ h
@@ -140,7 +139,7 @@ module _ {functions : List Function} {limit : ℕ} {q : Procedure} {around : Aro
       (λ u' k' keep' size. behind_close lines
       (none u' k' (keeps_then keep keep') (ap (λ m. natural z * m) size ∙ mul-zero (natural z))))
       (λ ls bs u' k' keep' size go_on. some ls bs u' k' (keeps_then keep keep')
-      (product_positive (natural z) (size_of rest) (positive z (test_is z (number_at u.ints test) true value h)) size) go_on)
+      (times_some (natural z) (size_of rest) (positive z (test_is z (number_at u.ints test) true value h)) size) go_on)
       (λ m v there. behind_close lines (next m v there)))
       (λ h. none u k keep (ap (λ m. m * size_of rest) (not_positive z (test_is z (number_at u.ints test) false value h))
       ∙ zero-mul (size_of rest))))
@@ -337,7 +336,7 @@ module _ (functions : List Function) (limit : ℕ) (c : Scope) (nests : ℕ) (ca
     does = λ t free {around} {n} {w} enough kin turned {lines} {braces} go out next.
         let q = c.own in
         let rank = length frame.extents in
-        let two = both_true (nat_le 1 rank) (nat_le rank 7) fits.ranked in
+        let two = and_parts (nat_le 1 rank) (nat_le rank 7) fits.ranked in
         let few : rank ≤ 7 = grind (arith, nat_tests, two.1) in
         let act = all_act c.unit.constants calls in
         let bodies = λ (place : List ℕ). calmly (act place body) in

@@ -6,6 +6,7 @@ use Rattle.std.proofs.lemmas.List.{length-map, map-set}
 use Rattle.a95_base.specs.declared.scalar.Scalar.{Scalar}
 use Rattle.a95_base.specs.declared.scalar.Scalar.TheVariants as scalar
 use Rattle.a95_base.specs.Steps.{Ran, pure, ◌>>=◌, ◌>>◌}
+use Rattle.std.proofs.lemmas.Bool.{and_parts, not-true}
 use Rattle.array_meaning.specs.Values.{truth_of, text_of, integer_of}
 use Rattle.array_meaning.specs.State.{Array, changed}
 use Rattle.array_meaning.specs.Control.{Next}
@@ -46,7 +47,7 @@ use Rattle.nest_emit.specs.Emits.{is_computed, is_whole, emits_access, is_text, 
 use Rattle.nest_emit.specs.Meets.{DoesAt}
 use Rattle.nest_emit.specs.Kin.{IsOf, Shows, is_text_scalar, cells_of as block_cells, held, cells_held, block_of, Stands, StandsIf, Around, Kin, AtTurn, Keeps, Stays}
 use Rattle.nest_emit.proofs.Runs.{told, regroup, regroup_next, pured, sees_it, changed as changes_does, parts, row_gives, if_does, behind_close}
-use Rattle.nest_emit.proofs.Values.{some_is, both_true, shows_as, is_true, array_below, reference_is, served, exact_shown}
+use Rattle.nest_emit.proofs.Values.{some_is, shows_as, is_true, array_below, reference_is, served, exact_shown}
 use Rattle.nest_emit.proofs.Indices.{number_below, small_wrap}
 use Rattle.nest_emit.proofs.Places.{place_does}
 use Rattle.nest_emit.proofs.Acts.{line_does}
@@ -57,7 +58,6 @@ use Rattle.nest_emit.proofs.Kin.{stays_then, kin_line}
 use Rattle.nest_emit.proofs.Cells.{numbering}
 use Rattle.nest_emit.proofs.Evaluates.{gives_served}
 use Rattle.nest_emit.proofs.Trees.{tree_does}
-use Rattle.nest_emit.proofs.Binary.{not_false}
 
 -- ---- what is stored
 
@@ -100,7 +100,7 @@ put_plain : (q : Procedure) (n : Name) (s : Sort) (blank old x : Scalar) → kee
     sort_of_name q n ≡ Some s →
     (is_text (Some s) ≡ false → is_text_scalar blank ≡ false) → put_as n blank None old x ≡ x
 put_plain q (name.Own i) s blank old x keeps is plain =
-    unchanged blank old x (plain (ap is_text (sym is) ∙ not_false (is_text (sort_of_name q (name.Own i))) keeps))
+    unchanged blank old x (plain (ap is_text (sym is) ∙ not-true (is_text (sort_of_name q (name.Own i))) keeps))
 put_plain q (name.Temp i) s blank old x keeps is plain = refl
 
 -- ---- the row that stores
@@ -207,11 +207,11 @@ module _ (functions : List Function) (limit : ℕ) (c : Scope) (nests : ℕ) (ca
   placed_does t free {around} {m} {u} kin turned a d z shown lines braces go next =
       let q = c.own in
       let array = array_number q target.name in
-      let two = both_true (list_all (λ d'. is_computed d'.along) target.dimensions) (is_whole target.portion) access in
-      let both = both_true (has_rank q target.name (length target.dimensions) && list_all
+      let two = and_parts (list_all (λ d'. is_computed d'.along) target.dimensions) (is_whole target.portion) access in
+      let both = and_parts (has_rank q target.name (length target.dimensions) && list_all
       (λ d'. fits_along c d'.along) target.dimensions)
       (fits_portion q target.name target.portion) fits in
-      let alongs = both_true (has_rank q target.name (length target.dimensions))
+      let alongs = and_parts (has_rank q target.name (length target.dimensions))
       (list_all (λ d'. fits_along c d'.along) target.dimensions) both.0 in
       let mem = memory_of m.cells in
       let at = place_atom q nests (suc t) target.dimensions in
@@ -295,7 +295,7 @@ stored_by (Some of) (Some from) h = (of, refl, (from, refl, h))
 
 stored_sort : (c : Scope) (n : Name) (x : Tree) → stores_in c n x ≡ true → StoredSort c n x
 stored_sort c n x h =
-    let two = both_true (may_store c.own n) (served_by (sort_of_name c.own n) (sort_of c x)) h in
+    let two = and_parts (may_store c.own n) (served_by (sort_of_name c.own n) (sort_of c x)) h in
     let is = stored_by (sort_of_name c.own n) (sort_of c x) two.1 in
     record { of = is.0; named = is.1; from = is.2.0; typed = is.2.1; fits = is.2.2 }
 
@@ -341,10 +341,10 @@ module _ (functions : List Function) (limit : ℕ) (c : Scope) (nests : ℕ) (ca
   piece_law p emits access guard value = record {
     does = λ t free {around} {n} {w} enough kin turned {lines} {braces} go out next.
         let last = λ (done : Unit {0}). pure Next >>= go in
-        let three = both_true (emits_access p.target && keeps_what_it_is_given c.own p.target.name && emits_guard p.guard)
+        let three = and_parts (emits_access p.target && keeps_what_it_is_given c.own p.target.name && emits_guard p.guard)
         (emits_tree p.value) emits in
-        let two = both_true (emits_access p.target && keeps_what_it_is_given c.own p.target.name) (emits_guard p.guard) three.0 in
-        let one = both_true (emits_access p.target) (keeps_what_it_is_given c.own p.target.name) two.0 in
+        let two = and_parts (emits_access p.target && keeps_what_it_is_given c.own p.target.name) (emits_guard p.guard) three.0 in
+        let one = and_parts (emits_access p.target) (keeps_what_it_is_given c.own p.target.name) two.0 in
         let to = stored_sort c p.target.name p.value value in
         let guarding = guarded cells_of c.unit.constants (applied calls) p.line turn p.guard p.value in
         regroup_next (piece_acts c.unit.constants calls turn p) (pure Next) go n
@@ -400,9 +400,9 @@ module _ (functions : List Function) (limit : ℕ) (c : Scope) (nests : ℕ) (ca
       (gives c i sort.Exact && stores_in c n x) ≡ true → Performs functions limit c nests calls turn depth (StoreCell line n i x)
   store_cell_law line n i x emits fits = record {
     does = λ t free {around} {n = st} {w} enough kin turned {lines} {braces} go out next.
-        let three = both_true (keeps_what_it_is_given c.own n && emits_tree i) (emits_tree x) emits in
-        let kept = both_true (keeps_what_it_is_given c.own n) (emits_tree i) three.0 in
-        let fit = both_true (gives c i sort.Exact) (stores_in c n x) fits in
+        let three = and_parts (keeps_what_it_is_given c.own n && emits_tree i) (emits_tree x) emits in
+        let kept = and_parts (keeps_what_it_is_given c.own n) (emits_tree i) three.0 in
+        let fit = and_parts (gives c i sort.Exact) (stores_in c n x) fits in
         let to = stored_sort c n x fit.1 in
         let si = served (sort_of c i) sort.Exact fit.0 in
         let q = c.own in

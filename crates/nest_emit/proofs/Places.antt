@@ -6,6 +6,7 @@ use Rattle.std.specs.Int.{w64, int_wrap}
 use Rattle.std.proofs.lemmas.Int.{int_wrap-add_right}
 use Rattle.std.proofs.lemmas.Bool.Decides.{nat_tests}
 use Rattle.a95_base.specs.Steps.{Ran}
+use Rattle.std.proofs.lemmas.Bool.{and_parts}
 use Rattle.array_meaning.specs.State.{Dimension as Bounds, extent_of}
 use Rattle.nest_tree.specs.declared.access.Along.{Along}
 use Rattle.nest_tree.specs.declared.access.Along.TheVariants as along
@@ -32,7 +33,7 @@ use Rattle.nest_emit.specs.Emits.{is_computed}
 use Rattle.nest_emit.specs.Meets.{DoesAt}
 use Rattle.nest_emit.specs.Kin.{Around, Kin, AtTurn, Keeps, BoundsAt}
 use Rattle.nest_emit.proofs.Runs.{parts}
-use Rattle.nest_emit.proofs.Values.{both_true, served, shows_serves, exact_shown}
+use Rattle.nest_emit.proofs.Values.{served, shows_serves, exact_shown}
 use Rattle.nest_emit.proofs.Rows.{adds, subtracts, multiplies, compute_does}
 use Rattle.nest_emit.proofs.Kin.{keeps_then, keeps_less, keeps_all, turn_kept}
 use Rattle.nest_emit.proofs.Indices.{numbered_is, wrap_wrap, wrap_sum, wrap_product, wrap_gap, small_wrap, wrap_fits}
@@ -68,9 +69,9 @@ module _ {functions : List Function} {limit : ℕ} {around : Around} {n : NestSt
       let same : amount n.cells.temps.setting a ≡ z = cc in
       next w kin (keeps_all t w) (ap (int_wrap w64) (amount_shown a fits kin ∙ same))
   subscript_does t w (along.Steps loop start stride) lines free kin turned computed fits z is next =
-      let two = both_true (is_loop c loop && fits_amount c.own start) (fits_amount c.own stride) fits in
-      let one = both_true (is_loop c loop) (fits_amount c.own start) two.0 in
-      let range = both_true (nat_le 1 loop) (nat_le loop c.loops) one.0 in
+      let two = and_parts (is_loop c loop && fits_amount c.own start) (fits_amount c.own stride) fits in
+      let one = and_parts (is_loop c loop) (fits_amount c.own start) two.0 in
+      let range = and_parts (nat_le 1 loop) (nat_le loop c.loops) one.0 in
       let first : 1 ≤ loop = grind (arith, nat_tests, range.0) in
       let last : loop ≤ c.loops = grind (arith, nat_tests, range.1) in
       let st = n.cells.temps.setting in
@@ -108,8 +109,8 @@ module _ {functions : List Function} {limit : ℕ} {around : Around} {n : NestSt
   place_does array there t w lines dim (d ∷ []) free kin turned computed fits (b ∷ bounds) few at k is next =
       let st = n.cells.temps.setting in
       let one = numbered_is b (subscript st turn d.along) (number_within bounds []) k is in
-      let now = both_true (is_computed d.along) true computed in
-      let fit = both_true (fits_along c d.along) true fits in
+      let now = and_parts (is_computed d.along) true computed in
+      let fit = and_parts (fits_along c d.along) true fits in
       let low : atom.Int (lower_number array dim) ≡ atom.Int (lower_number array dim) = refl in
       parts (subscript_lines c.own nests t d.along)
       (compute t (subscript_atom c.own nests t d.along) operator.Subtract (atom.Int (lower_number array dim)) ∷ []) lines
@@ -138,8 +139,8 @@ module _ {functions : List Function} {limit : ℕ} {around : Around} {n : NestSt
       let low = lower_number array dim in
       let extent = extent_number array dim in
       let one = numbered_is b (subscript st turn d.along) (number_within bounds (subscripts st turn (e ∷ more))) k is in
-      let now = both_true (is_computed d.along) (list_all (λ d. is_computed d.along) (e ∷ more)) computed in
-      let fit = both_true (fits_along c d.along) (list_all (λ d. fits_along c d.along) (e ∷ more)) fits in
+      let now = and_parts (is_computed d.along) (list_all (λ d. is_computed d.along) (e ∷ more)) computed in
+      let fit = and_parts (fits_along c d.along) (list_all (λ d. fits_along c d.along) (e ∷ more)) fits in
       let free' : first_free c.own ≤ suc t = omega (arith, free) in
       let sub = subscript_atom c.own nests (suc t) d.along in
       let last = compute t (atom.Int t) operator.Add (atom.Int (suc t)) ∷ [] in

@@ -7,12 +7,12 @@ use Rattle.a95_base.specs.Steps.{Ran, pure, stop, ◌>>=◌, ◌>>◌}
 use Rattle.array_meaning.specs.State as source
 use Rattle.array_meaning.specs.InputOutput.{record_of}
 use Rattle.array_meaning.specs.Values.{truth_of}
-use Rattle.array_meaning.specs.Control.{Flow, Next, Exits, Cycles, Returns}
+use Rattle.array_meaning.specs.Control.{Flow, Next, Exits, Cycles, Returns, behind, behind_turn}
 use Rattle.nest_tree.specs.declared.unit.Sort.{Sort}
 use Rattle.nest_tree.specs.declared.unit.Sort.TheVariants as sort
 use Rattle.nest_tree.specs.Plain.{Tree, Statement, Set, Test, If, While, Put, Write, Exit, Cycle, Return, Stop, Statements, no_statement, statement}
 use Rattle.nest_tree.specs.State.{NestState, Memory, memory_of, with_memory, with_written, Halt, By, Step, pick, changes, within, enter, joins, writes, with_kept}
-use Rattle.nest_tree.specs.Statements.{Caller, behind, test_acts, truth as truth_step, rounds, one_turn, behind_turn, only_next, calmly, acts, all_act}
+use Rattle.nest_tree.specs.Statements.{Caller, test_acts, truth as truth_step, rounds, one_turn, only_next, calmly, acts, all_act}
 use Rattle.nest_tree.specs.Sound.{one_deeper, Scope, serves, some_serves, served_by, sets, gives, sort_of}
 use Rattle.loop_tree.specs.declared.tree.CodeLine.{CodeLine}
 use Rattle.loop_tree.specs.declared.tree.CodeLine.TheVariants as code

@@ -10,6 +10,8 @@ use Rattle.a95_base.specs.Integer.{wrapped}
 use Rattle.a95_base.specs.Text.{trim}
 use Rattle.a95_base.specs.Steps.{pure, ◌>>=◌}
 use Rattle.a95_base.proofs.Wrapping.{wrapped-wrapped}
+use Rattle.std.proofs.lemmas.Bool.{and_parts}
+use Rattle.a95_base.proofs.Tests.{some_behind}
 use Rattle.f95_unit.specs.declared.operation.UnaryOp.{UnaryOp}
 use Rattle.f95_unit.specs.declared.operation.BinaryOp.{BinaryOp}
 use Rattle.array_meaning.specs.Values.{nothing, integer_of, text_of}
@@ -35,7 +37,7 @@ use Rattle.nest_emit.specs.Emits.{is_computed, is_whole, emits_access, emits_bin
 use Rattle.nest_emit.specs.Meets.{DoesAt}
 use Rattle.nest_emit.specs.Kin.{IsOf, Shows, cells_of as block_cells, held, cells_held, block_of, Stands, StandsIf, Around, Kin, AtTurn, Keeps}
 use Rattle.nest_emit.proofs.Runs.{regroup, pured, looked as found_does, sees_it, parts}
-use Rattle.nest_emit.proofs.Values.{both_true, sort_if_some, served, shows_as, exact_shown, text_shown, stands_for, scalar_sorted, known_sorted, array_below, choice_is}
+use Rattle.nest_emit.proofs.Values.{sort_if_some, served, shows_as, exact_shown, text_shown, stands_for, scalar_sorted, known_sorted, array_below}
 use Rattle.nest_emit.proofs.Rows.{read_wrap, read_trim, set_does, say_does}
 use Rattle.nest_emit.proofs.Operators.{unary_asks, unary_fits, unary_does}
 use Rattle.nest_emit.proofs.Binary.{asks, binary_fits, binary_does}
@@ -102,7 +104,7 @@ module _ (functions : List Function) (limit : ℕ) (c : Scope) (nests : ℕ) (ca
   turn_law loop = record {
     does = λ s is t free {around} {n} {w} kin turned at {lines} {braces} go next.
         let e = sort_if_some (is_loop c loop) sort.Exact s is in
-        let range = both_true (nat_le 1 loop) (nat_le loop c.loops) e.0 in
+        let range = and_parts (nat_le 1 loop) (nat_le loop c.loops) e.0 in
         let first : 1 ≤ loop = grind (arith, nat_tests, range.0) in
         let last : loop ≤ c.loops = grind (arith, nat_tests, range.1) in
         let z = int (pos (at_turn turn loop)) in
@@ -117,13 +119,13 @@ module _ (functions : List Function) (limit : ℕ) (c : Scope) (nests : ℕ) (ca
   read_law : (a : Access) → emits_access a ≡ true → Law (Read a)
   read_law a emits = record {
     does = λ s is t free {around} {n} {w} kin turned at {lines} {braces} go next.
-        let two = both_true (list_all (λ d. is_computed d.along) a.dimensions) (is_whole a.portion) emits in
-        let fit = choice_is (fits_access c a) (sort_of_name c.own a.name) s is in
+        let two = and_parts (list_all (λ d. is_computed d.along) a.dimensions) (is_whole a.portion) emits in
+        let fit = some_behind (fits_access c a) (sort_of_name c.own a.name) s is in
         let q = c.own in
         let array = array_number q a.name in
-        let both = both_true (has_rank q a.name (length a.dimensions) && list_all (λ d. fits_along c d.along) a.dimensions)
+        let both = and_parts (has_rank q a.name (length a.dimensions) && list_all (λ d. fits_along c d.along) a.dimensions)
         (fits_portion q a.name a.portion) fit.0 in
-        let alongs = both_true (has_rank q a.name (length a.dimensions)) (list_all (λ d. fits_along c d.along) a.dimensions)
+        let alongs = and_parts (has_rank q a.name (length a.dimensions)) (list_all (λ d. fits_along c d.along) a.dimensions)
         both.0 in
         let m = memory_of n.cells in
         sees_it (λ m'. looked m' turn a) go n (λ x e.
@@ -194,7 +196,7 @@ module _ (functions : List Function) (limit : ℕ) (c : Scope) (nests : ℕ) (ca
   exactly_law op x y law law' = record {
     does = λ s is t free {around} {n} {w} kin turned at {lines} {braces} go next.
         let fit = sort_if_some (both_serve (sort_of c x) (sort_of c y) sort.Exact) (exact_sort op) s is in
-        let two = both_true (some_serves (sort_of c x) sort.Exact) (some_serves (sort_of c y) sort.Exact) fit.0 in
+        let two = and_parts (some_serves (sort_of c x) sort.Exact) (some_serves (sort_of c y) sort.Exact) fit.0 in
         let a = atom_of c nests t x in
         let b = atom_of c nests (suc t) y in
         let last = exact_lines op t a b in
@@ -312,15 +314,15 @@ module _ (functions : List Function) (limit : ℕ) (c : Scope) (nests : ℕ) (ca
     tree_does (Asked q n) h = asked_law functions limit c nests calls line turn q n h
     tree_does (Unary op x) h = unary_law op x (tree_does x h)
     tree_does (Binary op x y) h =
-        let two = both_true (emits_binary op && emits_tree x) (emits_tree y) h in
-        let one = both_true (emits_binary op) (emits_tree x) two.0 in
+        let two = and_parts (emits_binary op && emits_tree x) (emits_tree y) h in
+        let one = and_parts (emits_binary op) (emits_tree x) two.0 in
         binary_law op x y one.0 (tree_does x one.1) (tree_does y two.1)
     tree_does (Exactly op x y) h =
-        let two = both_true (emits_tree x) (emits_tree y) h in
+        let two = and_parts (emits_tree x) (emits_tree y) h in
         exactly_law op x y (tree_does x two.0) (tree_does y two.1)
     tree_does (Wrapped x) h = wrapped_law x (tree_does x h)
     tree_does (Each which xs) h =
-        let two = both_true (emits_elemental which) (emits_trees xs) h in each_law which xs two.0 (trees_do xs two.1)
+        let two = and_parts (emits_elemental which) (emits_trees xs) h in each_law which xs two.0 (trees_do xs two.1)
     tree_does (Trim x) h = trim_law x (tree_does x h)
     tree_does (Len x) h = cc
     tree_does (Applied i b p xs) h = cc
@@ -328,4 +330,4 @@ module _ (functions : List Function) (limit : ℕ) (c : Scope) (nests : ℕ) (ca
     trees_do : (ts : Trees) → emits_trees ts ≡ true → LawAll ts
     trees_do no_tree h = no_tree_law
     trees_do (tree place x ts) h =
-        let two = both_true (emits_tree x) (emits_trees ts) h in next_tree_law place x ts (tree_does x two.0) (trees_do ts two.1)
+        let two = and_parts (emits_tree x) (emits_trees ts) h in next_tree_law place x ts (tree_does x two.0) (trees_do ts two.1)

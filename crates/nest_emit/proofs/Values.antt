@@ -1,6 +1,6 @@
 -- Sorts, and what stands for a value of one.
-use Rattle.std.proofs.Common.{◌≡◌, ◌⊎◌, inl, inr, ℕ, ◌<◌, ◌≤◌, Bool, true, false, ◌&&◌, List, Option, Some, None, refl, sym, ap, ◌∙◌, subst, arith, ℤ, pos, length}
-use Rattle.std.specs.Prelude.{FitsSigned, negsuc, slice_get, get_or, is_some, if◌then◌else◌}
+use Rattle.std.proofs.Common.{◌≡◌, ◌⊎◌, inl, inr, ℕ, ◌<◌, ◌≤◌, Bool, true, false, List, Option, Some, None, refl, sym, ap, ◌∙◌, subst, arith, ℤ, pos, length}
+use Rattle.std.specs.Prelude.{FitsSigned, negsuc, slice_get, get_or, is_some}
 use Rattle.std.proofs.lemmas.Option.{slice_get_cases}
 use Rattle.a95_base.specs.declared.scalar.Scalar.{Scalar}
 use Rattle.a95_base.specs.declared.scalar.Scalar.TheVariants as scalar
@@ -23,19 +23,6 @@ use Rattle.nest_emit.specs.Numbers.{array_number, array_count, first_free, scala
 use Rattle.nest_emit.specs.Trees.{number_for, reference_to}
 use Rattle.nest_emit.specs.Kin.{IsOf, StandsFor, Shows, block_of}
 use Rattle.loop_laws.specs.At.{Variables, number_of}
-
-pub both_true : (a b : Bool) → (a && b) ≡ true → (a ≡ true) × (b ≡ true)
-both_true true true h = (refl, refl)
-both_true true false h = cc
-both_true false b h = cc
-
-pub clash : (b : Bool) → b ≡ true → b ≡ false → ⊥
-clash true e h = cc
-clash false e h = cc
-
-pub choice_is : {A : Type 0} (b : Bool) (o : Option A) (a : A) → (if b then o else None) ≡ Some a → (b ≡ true) × (o ≡ Some a)
-choice_is true o a h = (refl, h)
-choice_is false o a h = cc
 
 pub there_is : {A : Type 0} (o : Option A) → is_some o ≡ true → (a : A) × (o ≡ Some a)
 there_is None h = cc

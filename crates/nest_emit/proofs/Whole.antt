@@ -9,7 +9,7 @@ use Rattle.a95_base.specs.Outcome.{Outcome, Finished}
 use Rattle.a95_base.specs.Steps.{Ran, pure}
 use Rattle.a95_base.proofs.Steps.{value_unread}
 use Rattle.array_meaning.specs.State as source
-use Rattle.array_meaning.specs.State.{Variable, no_variable}
+use Rattle.array_meaning.specs.State.{no_variable}
 use Rattle.array_meaning.specs.Run.{most_calls}
 use Rattle.array_meaning.specs.Control.{Flow, Next, Returns}
 use Rattle.loop_tree.specs.declared.row.ControlRow.TheVariants as control
@@ -45,10 +45,11 @@ use Rattle.nest_emit.specs.EmitLaws.{ProgramSimulates, ProgramFollows}
 use Rattle.nest_emit.specs.Meets.{outcome_for, run_with, ending}
 use Rattle.nest_emit.specs.Kin.{is_text_scalar, Shows, held, cells_held, block_of, StandsIf, Kin}
 use Rattle.nest_emit.proofs.Runs.{told}
-use Rattle.nest_emit.proofs.Values.{both_true, some_is}
+use Rattle.nest_emit.proofs.Values.{some_is}
 use Rattle.nest_emit.proofs.Indices.{small_wrap}
 use Rattle.a95_base.proofs.Wrapping.{wrapped_small}
 use Rattle.std.proofs.lemmas.List.{length-map}
+use Rattle.std.proofs.lemmas.Bool.{and_parts}
 use Rattle.array_meaning.specs.Expressions.{blank_of_type}
 use Rattle.f95_unit.specs.declared.unit.DeclaredType.TheVariants as declared
 use Rattle.nest_emit.proofs.Performs.{Performs, PerformsAll, Placed}
@@ -62,7 +63,7 @@ use Rattle.nest_emit.proofs.Statements.{set_law, test_law, put_law, write_law, s
 placed_inside : (c : Scope) (nests : ℕ) → Placed c nests → (frame : Frame) → FitsFrame c.own frame →
     Placed (in_nest c (length frame.extents)) (suc nests)
 placed_inside c nests placed frame fits =
-    let two = both_true (nat_le 1 (length frame.extents)) (nat_le (length frame.extents) 7) fits.ranked in
+    let two = and_parts (nat_le 1 (length frame.extents)) (nat_le (length frame.extents) 7) fits.ranked in
     let few : length frame.extents ≤ 7 = grind (arith, nat_tests, two.1) in
     record { few = few; nested = omega (arith, few); ranks = placed.ranks }
 
@@ -76,8 +77,8 @@ mutual
   statement_does (Test line kind x) functions limit c nests calls turn placed depth e f = test_law functions limit c nests calls
       turn depth line kind x e f
   statement_does (Store p) functions limit c nests calls turn placed depth e f =
-      let two = both_true (fits_access c p.target && fits_guard c p.guard) (stores_in c p.target.name p.value) f in
-      let one = both_true (fits_access c p.target) (fits_guard c p.guard) two.0 in
+      let two = and_parts (fits_access c p.target && fits_guard c p.guard) (stores_in c p.target.name p.value) f in
+      let one = and_parts (fits_access c p.target) (fits_guard c p.guard) two.0 in
       piece_law functions limit c nests calls turn depth p e one.0 one.1 two.1
   statement_does (StoreCell line n x y) functions limit c nests calls turn placed depth e f = store_cell_law functions limit c
       nests calls turn depth line n x y e f
@@ -91,20 +92,20 @@ mutual
   statement_does (StoreEntry line l x y) functions limit c nests calls turn placed depth e f = cc
   statement_does (FreeList line l) functions limit c nests calls turn placed depth e f = cc
   statement_does (Nest own frame headers checks body) functions limit c nests calls turn placed depth e f =
-      let two = both_true (emits_all c.own checks) (emits_all c.own body) e in
+      let two = and_parts (emits_all c.own checks) (emits_all c.own body) e in
       nest_law functions limit c nests calls turn depth placed own frame headers checks body f.0
       (all_do checks functions limit c nests calls turn placed None two.0 f.1)
       (λ place. all_do body functions limit (in_nest c (length frame.extents)) (suc nests) calls place
       (placed_inside c nests placed frame f.0) None two.1 f.2)
   statement_does (If line test yes_part no_part) functions limit c nests calls turn placed depth e f =
-      let two = both_true (emits_tree test && emits_all c.own yes_part) (emits_all c.own no_part) e in
-      let one = both_true (emits_tree test) (emits_all c.own yes_part) two.0 in
+      let two = and_parts (emits_tree test && emits_all c.own yes_part) (emits_all c.own no_part) e in
+      let one = and_parts (emits_tree test) (emits_all c.own yes_part) two.0 in
       if_law functions limit c nests calls turn depth line test yes_part no_part one.0 f.0
       (all_do yes_part functions limit c nests calls turn placed depth one.1 f.1)
       (all_do no_part functions limit c nests calls turn placed depth two.1 f.2)
   statement_does (While line head test body) functions limit c nests calls turn placed depth e f =
-      let two = both_true (emits_all c.own head && emits_tree test) (emits_all c.own body) e in
-      let one = both_true (emits_all c.own head) (emits_tree test) two.0 in
+      let two = and_parts (emits_all c.own head && emits_tree test) (emits_all c.own body) e in
+      let one = and_parts (emits_all c.own head) (emits_tree test) two.0 in
       while_law functions limit c nests calls turn depth placed line head test body one.1 f.1
       (all_do head functions limit c nests calls turn placed None one.0 f.0)
       (all_do body functions limit c nests calls turn placed (one_deeper depth) two.1 f.2)
@@ -134,7 +135,7 @@ mutual
       PerformsAll functions limit c nests calls turn depth body
   all_do no_statement functions limit c nests calls turn placed depth e f = none_law functions limit c nests calls turn depth
   all_do (statement s more) functions limit c nests calls turn placed depth e f =
-      let two = both_true (emits_statement c.own s) (emits_all c.own more) e in
+      let two = and_parts (emits_statement c.own s) (emits_all c.own more) e in
       first_law functions limit c nests calls turn depth placed s more
       (statement_does s functions limit c nests calls turn placed depth two.0 f.0)
       (all_do more functions limit c nests calls turn placed depth two.1 f.1)
@@ -153,16 +154,16 @@ declared_rank : (test : Declared → Bool) → ((d : Declared) → test d ≡ tr
 declared_rank test each [] i rank h g = cc
 declared_rank test each (d ∷ ds) zero rank h g =
     let same : d.rank ≡ rank = grind (arith, nat_tests, g) in
-    let few = each d (both_true (test d) (list_all test ds) h).0 in omega (arith, same, few)
-declared_rank test each (d ∷ ds) (suc i) rank h g = declared_rank test each ds i rank (both_true (test d) (list_all test ds) h).1 g
+    let few = each d (and_parts (test d) (list_all test ds) h).0 in omega (arith, same, few)
+declared_rank test each (d ∷ ds) (suc i) rank h g = declared_rank test each ds i rank (and_parts (test d) (list_all test ds) h).1 g
 
 ranks_known : (q : Procedure) → are_declared q.variables ≡ true → (n : Name) (rank : ℕ) → has_rank q n rank ≡ true → rank ≤ 7
 ranks_known q h (name.Own i) rank g =
     let count = count_dummies q.variables in
     let test = λ (d : Declared). has_own_length d.of d.role && has_own_rank d.rank d.role && result_is_last count d.role in
-    declared_rank test (λ d t. rank_by d.rank d.role (both_true (has_own_length d.of d.role) (has_own_rank d.rank d.role)
-    (both_true (has_own_length d.of d.role && has_own_rank d.rank d.role) (result_is_last count d.role) t).0).1) q.variables i rank
-    (both_true (list_all test q.variables) (list_all (λ place. is_some (dummy_at place q.variables)) (count_to count)) h).0 g
+    declared_rank test (λ d t. rank_by d.rank d.role (and_parts (has_own_length d.of d.role) (has_own_rank d.rank d.role)
+    (and_parts (has_own_length d.of d.role && has_own_rank d.rank d.role) (result_is_last count d.role) t).0).1) q.variables i rank
+    (and_parts (list_all test q.variables) (list_all (λ place. is_some (dummy_at place q.variables)) (count_to count)) h).0 g
 ranks_known q h (name.Temp i) rank g = grind (arith, nat_tests, g)
 
 first_shown : (s : Sort) → Shows s (pos 0) [] (first_of s)

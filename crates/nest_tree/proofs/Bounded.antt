@@ -1,10 +1,8 @@
 -- What loops add to the count of entries.
-use Rattle.std.proofs.Common.{◌≡◌, subst, ◌∙◌, ℕ, suc, ◌+◌, ◌*◌, ◌-◌, ◌≤◌, arith, Bool, true, false, List, [], ◌∷◌, length}
+use Rattle.std.proofs.Common.{◌≡◌, subst, ℕ, suc, ◌+◌, ◌*◌, ◌-◌, ◌≤◌, arith, List, [], ◌∷◌, length}
 use Rattle.std.specs.Prelude.{Result, Ok, Err, slice_index, slice_set}
-use Rattle.std.proofs.lemmas.List.{length-reverse}
-use Rattle.a95_base.specs.Lists.{count_to}
 use Rattle.a95_base.specs.Steps.{pure, behind, ◌>>=◌, ◌>>◌}
-use Rattle.a95_base.proofs.Lists.{length-count_to}
+use Rattle.rank_shape.proofs.Walks.{length-turns_of}
 use Rattle.rank_shape.specs.Walk.{turns_of}
 use Rattle.nest_tree.specs.State.{NestState, Halt, Step, enter}
 use Rattle.nest_tree.specs.Statements.{each_turn, loops}
@@ -59,16 +57,12 @@ adds_each body each h (i ∷ turns) =
     (adds_next 1 (each + length turns * suc each) adds_enter (adds_next each (length turns * suc each) (h i)
     (adds_each body each h turns)))
 
-turns_length : (down : Bool) (extent : ℕ) → length (turns_of down extent) ≡ extent
-turns_length false extent = length-count_to extent
-turns_length true extent = length-reverse (count_to extent) ∙ length-count_to extent
-
 pub loops_are_bounded : LoopsAreBounded
 unfolding loops
 loops_are_bounded body each h [] extents turn = h turn
 loops_are_bounded body each h (level ∷ inner) extents turn =
     subst (λ k. AddsAtMost (k * suc (entries_of inner extents each)) (loops body (level ∷ inner) extents turn))
-    (turns_length level.down (slice_index extents (level.number - 1)))
+    (length-turns_of level.down (slice_index extents (level.number - 1)))
     (adds_each (λ i. loops body inner extents (slice_set turn (level.number - 1) i)) (entries_of inner extents each)
     (λ i. loops_are_bounded body each h inner extents (slice_set turn (level.number - 1) i))
     (turns_of level.down (slice_index extents (level.number - 1))))

@@ -139,7 +139,7 @@ paid_spare {m = m} h = record { paid = λ n. spare_by n (m n).came (m n).after (
 same_le : (a : ℕ) → a ≤ a + 0
 same_le a = omega arith
 
-le_refl : (a : ℕ) → a ≤ a
+pub le_refl : (a : ℕ) → a ≤ a
 le_refl a = omega arith
 
 value_here : {A : Type 0} (a : A) (n : NestState) → PaidBy 0 n (Ok a) n

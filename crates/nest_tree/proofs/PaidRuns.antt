@@ -8,15 +8,15 @@ use Rattle.a95_base.specs.Steps.{pure, stop, behind as goes_on, ◌>>=◌, ◌>>
 use Rattle.array_meaning.specs.State as source
 use Rattle.array_meaning.specs.State.{State, fault_at, unless, unread, pass}
 use Rattle.array_meaning.specs.InputOutput.{taken, next_integer, skip_record}
-use Rattle.array_meaning.specs.Control.{Flow, Next, Exits, Cycles, Returns}
+use Rattle.array_meaning.specs.Control.{Flow, Next, Exits, Cycles, Returns, behind_turn}
 use Rattle.nest_tree.specs.Plain.{Procedure, NestUnit}
 use Rattle.nest_tree.specs.State.{NestState, Halt, By, Stray, Step, enter}
-use Rattle.nest_tree.specs.Statements.{Given, Caller, behind_turn, one_turn, rounds}
+use Rattle.nest_tree.specs.Statements.{Given, Caller, one_turn, rounds}
 use Rattle.array_meaning.specs.Run.{most_calls}
 use Rattle.nest_tree.specs.Run.{body_acts, entered, called, outcome_of, start, main_acts}
 use Rattle.nest_tree.specs.Counts.{TurnsArePaid}
 use Rattle.nest_tree.proofs.Paid.{PaidBy, Paid, paid_then, paid_next, paid_first, paid_entered, paid_spare, paid_pure, paid_stray}
-use Rattle.nest_tree.proofs.Paid.{paid_stopped, paid_found, paid_given, paid_reads, paid_changes, paid_joins, paid_writes}
+use Rattle.nest_tree.proofs.Paid.{paid_stopped, paid_found, paid_given, paid_reads, paid_changes, paid_joins, paid_writes, le_refl}
 use Rattle.nest_tree.proofs.Paid.{paid_pick, Idle, paid_within, paid_turn, paid_inside, PaidUpTo, up_to, up_to_then, up_to_next}
 use Rattle.nest_tree.proofs.Paid.{up_to_entered, up_to_pick, waits_up_to, up_to_turned, paid_turns_left}
 use Rattle.nest_tree.proofs.Walk.{Walk, any, any_all, of_all}
@@ -117,12 +117,9 @@ paid_rounds h t b (suc k) = up_to_entered
 more_entries : (l e : ℕ) → l + e ≤ (l + suc e) + 0
 more_entries l e = omega arith
 
-as_many : (l : ℕ) → l ≤ l
-as_many l = omega arith
-
 paid_enter : Paid 0 enter
 unfolding enter
-paid_enter = record { paid = λ n. (more_entries n.cells.plain.left n.entries, as_many n.cells.plain.left) }
+paid_enter = record { paid = λ n. (more_entries n.cells.plain.left n.entries, le_refl n.cells.plain.left) }
 
 abbrev pub IsPaid : (A : Type 0) → Step A → Type 0
 IsPaid A m = Paid {A = A} 0 m

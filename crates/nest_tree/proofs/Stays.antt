@@ -10,14 +10,14 @@ use Rattle.a95_base.specs.Steps.{pure, stop, behind as goes_on, ◌>>=◌, ◌>>
 use Rattle.array_meaning.specs.State as source
 use Rattle.array_meaning.specs.State.{State, Variable, fault_at, unless, unread, pass, turn_from, turn}
 use Rattle.array_meaning.specs.InputOutput.{taken, next_integer, skip_record}
-use Rattle.array_meaning.specs.Control.{Flow, Next, Exits, Cycles, Returns}
+use Rattle.array_meaning.specs.Control.{Flow, Next, Exits, Cycles, Returns, behind_turn}
 use Rattle.nest_tree.specs.declared.access.Name.{Name}
 use Rattle.nest_tree.specs.declared.access.Name.TheVariants as name
 use Rattle.nest_tree.specs.Plain.{NestUnit}
 use Rattle.nest_tree.specs.State.{cells_of, NestState, Memory, memory_of, Halt, Step, found, given, sees, pick, changed_to, changes}
 use Rattle.nest_tree.specs.State.{within, enter, turns_left, joins, writes, inside, set_at, block_in, with_block, with_kept}
 use Rattle.nest_tree.specs.State.{with_list}
-use Rattle.nest_tree.specs.Statements.{Given, behind_turn, one_turn, rounds}
+use Rattle.nest_tree.specs.Statements.{Given, one_turn, rounds}
 use Rattle.nest_tree.specs.Run.{called}
 use Rattle.nest_tree.specs.Frames.{Spot, ScalarAt, ListAt, ArrayAt, Is, SameAt, CalledApart, OthersStay}
 use Rattle.nest_tree.proofs.Walk.{Reached, here, by_block, by_kept, by_list, ReachedIf, Walk, of_all}
@@ -38,7 +38,7 @@ same_trans (ArrayAt n) a b c h g = g ∙ h
 
 -- ---- one change
 
-set_other : {A : Type 0} (f : ℕ → A) (k n : ℕ) (a : A) → (n ≡ k → ⊥) → set_at f k a n ≡ f n
+pub set_other : {A : Type 0} (f : ℕ → A) (k n : ℕ) (a : A) → (n ≡ k → ⊥) → set_at f k a n ≡ f n
 set_other f k n a h = ap (λ b. if b then a else f n) (ne_eqb n k h)
 
 block_other : (m : Memory) (n other : Name) (v : Variable) → (other ≡ n → ⊥) → block_in (with_block m n v) other ≡ block_in m other

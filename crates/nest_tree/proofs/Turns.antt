@@ -1,16 +1,16 @@
--- One more turn: what ended comes out the same, and what was written while waiting begins what is written then. Each step is
--- compared with itself in a state that has one more turn left, or with one that may go on for one more round.
-use Rattle.std.proofs.Common.{◌≡◌, refl, ℕ, suc, Bool, true, false, List}
+-- One more turn, for the steps of a nest run.
+use Rattle.std.proofs.Common.{refl, ℕ, suc, Bool, true, false, List}
 use Rattle.std.specs.Prelude.{Option, Some, None, Result, Ok, Err}
 use Rattle.a95_base.specs.declared.fault.FaultKind.{FaultKind}
 use Rattle.a95_base.specs.declared.scalar.Scalar.{Scalar}
-use Rattle.a95_base.specs.Steps.{Ran, pure, stop, behind, ◌>>=◌, ◌>>◌}
+use Rattle.a95_base.specs.Steps.{Ran, stop, ◌>>=◌, ◌>>◌}
 use Rattle.a95_base.specs.Outcome.{IsPrefix}
+use Rattle.a95_base.proofs.Turns as turns
+use Rattle.a95_base.proofs.Turns.{Clock, steady_by, prefix_refl}
 use Rattle.array_meaning.specs.State as source
 use Rattle.array_meaning.specs.State.{State}
 use Rattle.array_meaning.specs.InputOutput.{record_of}
 use Rattle.array_meaning.proofs.Turns as plain
-use Rattle.array_meaning.proofs.Turns.{prefix_refl, prefix_trans}
 use Rattle.nest_tree.specs.State.{cells_of, NestState, Memory, memory_of, with_memory, Halt, By, Stray, Step, or_stray, at_line}
 use Rattle.nest_tree.specs.State.{found, given, sees, pick, changed_to, changes, lifted, within, enter, turns_left, joins, writes}
 use Rattle.nest_tree.specs.State.{back_to, inside}
@@ -21,77 +21,30 @@ more n = record n { cells = record n.cells { plain = plain.more n.cells.plain } 
 abbrev pub told : NestState → List ℕ
 told n = n.cells.plain.written
 
--- what is written is only added to
-pub record Tells {A : Type 0} (m : Step A) : Type 0 where
-  pub tells : (n : NestState) → IsPrefix (told n) (told (m n).after)
+-- whether it waits for a turn
+abbrev pub waits : Halt → Bool
+waits (By halt) = plain.waits halt
+waits Stray = false
+
+abbrev pub clock : Clock Halt NestState
+clock = record { more = more; written = told; waits = waits }
+
+abbrev pub Tells : {A : Type 0} → Step A → Type 0
+Tells m = turns.Tells clock m
 
 abbrev pub SameBy : {A : Type 0} → Result A Halt → NestState → Result A Halt → NestState → Type 0
-SameBy (Ok a) n came' n' = (came' ≡ Ok a) × (n' ≡ more n)
-SameBy (Err (By source.OutOfTurns)) n came' n' = IsPrefix (told n) (told n')
-SameBy (Err (By source.Stopped)) n came' n' = (came' ≡ Err (By source.Stopped)) × (n' ≡ more n)
-SameBy (Err (By (source.Faults kind line))) n came' n' = (came' ≡ Err (By (source.Faults kind line))) × (n' ≡ more n)
-SameBy (Err Stray) n came' n' = (came' ≡ Err Stray) × (n' ≡ more n)
+SameBy came n came' n' = turns.SameBy clock came n came' n'
 
 abbrev pub Same : {A : Type 0} → Ran Halt NestState A → Ran Halt NestState A → Type 0
-Same r r' = SameBy r.came r.after r'.came r'.after
+Same r r' = turns.Same clock r r'
 
--- the second step, with one more turn, comes to the same as the first where that doesn't wait
-pub record Grows {A : Type 0} (m m' : Step A) : Type 0 where
-  pub grows : (n : NestState) → Same (m n) (m' (more n))
-  pub first : Tells m
-  pub second : Tells m'
+abbrev pub Grows : {A : Type 0} → Step A → Step A → Type 0
+Grows m m' = turns.Grows clock m m'
 
 abbrev pub Steady : {A : Type 0} → Step A → Type 0
-Steady m = Grows m m
-
-steady_by : {A : Type 0} {m : Step A} → ((n : NestState) → Same (m n) (m (more n))) →
-    ((n : NestState) → IsPrefix (told n) (told (m n).after)) → Steady m
-steady_by h t = record { grows = h; first = record { tells = t }; second = record { tells = t } }
-
--- ---- one step behind another
-
-tells_behind : {A B : Type 0} (f : A → Step B) → ((a : A) → Tells (f a)) → (came : Result A Halt) (n : NestState)
-    → IsPrefix (told n) (told (behind f came n).after)
-unfolding behind
-tells_behind f t (Ok a) n = (t a).tells n
-tells_behind f t (Err halt) n = prefix_refl (told n)
-
-pub tells_then : {A B : Type 0} {m : Step A} {f : A → Step B} → Tells m → ((a : A) → Tells (f a)) → Tells (m >>= f)
-unfolding ◌>>=◌
-tells_then {m = m} {f = f} h t = record { tells = λ n. prefix_trans (h.tells n) (tells_behind f t (m n).came (m n).after) }
-
-grows_behind : {A B : Type 0} (f f' : A → Step B) → ((a : A) → Grows (f a) (f' a)) → (came : Result A Halt) (n : NestState)
-    (came' : Result A Halt) (n' : NestState)
-    → SameBy came n came' n' → Same (behind f came n) (behind f' came' n')
-unfolding behind
-grows_behind f f' g (Ok a) n came' n' h = rw (h.0, h.1) ((g a).grows n)
-grows_behind f f' g (Err (By source.OutOfTurns)) n came' n' h = prefix_trans h (tells_behind f' (λ a. (g a).second) came' n')
-grows_behind f f' g (Err (By source.Stopped)) n came' n' h = rw (h.0, h.1) (refl, refl)
-grows_behind f f' g (Err (By (source.Faults kind line))) n came' n' h = rw (h.0, h.1) (refl, refl)
-grows_behind f f' g (Err Stray) n came' n' h = rw (h.0, h.1) (refl, refl)
-
-pub grows_then : {A B : Type 0} {m m' : Step A} {f f' : A → Step B} → Grows m m' → ((a : A) → Grows (f a) (f' a)) → Grows
-    (m >>= f) (m' >>= f')
-unfolding ◌>>=◌
-grows_then {m = m} {m' = m'} {f = f} {f' = f'} h g = record {
-  grows = λ n. grows_behind f f' g (m n).came (m n).after (m' (more n)).came (m' (more n)).after (h.grows n);
-  first = tells_then h.first (λ a. (g a).first);
-  second = tells_then h.second (λ a. (g a).second);
-}
-
-pub grows_next : {A B : Type 0} {m m' : Step A} {k k' : Step B} → Grows m m' → Grows k k' → Grows (m >> k) (m' >> k')
-unfolding ◌>>◌ ◌>>=◌
-grows_next {m = m} {m' = m'} {k = k} {k' = k'} h g = record {
-  grows = λ n. grows_behind (λ a. k) (λ a. k') (λ a. g) (m n).came (m n).after (m' (more n)).came (m' (more n)).after (h.grows n);
-  first = record { tells = (tells_then {f = λ a. k} h.first (λ a. g.first)).tells };
-  second = record { tells = (tells_then {f = λ a. k'} h.second (λ a. g.second)).tells };
-}
+Steady m = turns.Steady clock m
 
 -- ---- steps that look at no turn
-
-pub steady_pure : {A : Type 0} (a : A) → Steady (pure a)
-unfolding pure
-steady_pure a = steady_by (λ n. (refl, refl)) (λ n. prefix_refl (told n))
 
 pub steady_stray : {A : Type 0} → Steady (stop {A = A} Stray)
 unfolding stop

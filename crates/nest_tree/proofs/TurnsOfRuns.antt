@@ -4,34 +4,26 @@ use Rattle.std.specs.Prelude.{Result, Ok, Err}
 use Rattle.a95_base.specs.Input.{Reading, Integer, NoMore, NoInteger}
 use Rattle.a95_base.specs.Outcome.{Stop as Ending, Outcome, Finished, Going, Run, IsPrefix}
 use Rattle.a95_base.specs.Steps.{◌>>=◌, ◌>>◌}
+use Rattle.a95_base.proofs.Turns.{prefix_refl, prefix_trans, grows_then, grows_next, steady_pure}
+use Rattle.array_meaning.proofs.TurnsOfFlow.{grows_behind_turn}
 use Rattle.array_meaning.specs.State as source
 use Rattle.array_meaning.specs.InputOutput.{taken, next_integer, skip_record}
-use Rattle.array_meaning.specs.Control.{Flow, Next, Exits, Cycles, Returns}
+use Rattle.array_meaning.specs.Control.{Flow}
 use Rattle.array_meaning.proofs.Turns as plain
-use Rattle.array_meaning.proofs.Turns.{prefix_refl, prefix_trans}
 use Rattle.nest_tree.specs.Plain.{Procedure, NestUnit}
 use Rattle.nest_tree.specs.State.{NestState, Halt, By, Stray, Step}
-use Rattle.nest_tree.specs.Statements.{Given, Caller, behind_turn, one_turn, rounds}
+use Rattle.nest_tree.specs.Statements.{Given, Caller, one_turn, rounds}
 use Rattle.array_meaning.specs.Run.{most_calls}
 use Rattle.nest_tree.specs.Run.{End, Strayed, body_acts, entered, called, outcome_of, start, main_acts, run_of, nest_run, as_end}
 use Rattle.nest_tree.specs.Run.{as_nest, as_stop}
 use Rattle.nest_tree.specs.RunLaws.{StaysBy, Stays, MoreTurns, DoesNotStray}
-use Rattle.nest_tree.proofs.Turns.{SameBy, Steady, Grows, grows_then, grows_next, steady_pure, steady_stray, steady_stopped}
+use Rattle.nest_tree.proofs.Turns.{SameBy, Steady, Grows, steady_stray, steady_stopped}
 use Rattle.nest_tree.proofs.Turns.{steady_found, steady_given, steady_reads, steady_changes, steady_enter, steady_joins}
 use Rattle.nest_tree.proofs.Turns.{steady_writes, grows_pick, steady_within, tells_waits, grows_waits, steady_turns_left}
 use Rattle.nest_tree.proofs.Turns.{grows_inside}
 use Rattle.nest_tree.proofs.Walk.{Walk, any, any_all, of_all}
 
 -- ---- loops
-
-grows_behind_turn : (flow : Flow) {rest rest' : Step Flow} → Grows rest rest'
-    → Grows (behind_turn flow rest) (behind_turn flow rest')
-grows_behind_turn Next h = h
-grows_behind_turn (Cycles zero) h = h
-grows_behind_turn (Cycles (suc out)) h = steady_pure _
-grows_behind_turn (Exits zero) h = steady_pure _
-grows_behind_turn (Exits (suc out)) h = steady_pure _
-grows_behind_turn Returns h = steady_pure _
 
 grows_one_turn : {body rest rest' : Step Flow} → Steady body → Grows rest rest' → Grows (one_turn body rest) (one_turn body rest')
 grows_one_turn h g = grows_next (steady_within plain.steady_turn) (grows_then h (λ flow. grows_behind_turn flow g))
@@ -56,16 +48,16 @@ grows_rounds h t b (suc k) = grows_next steady_enter
 -- ---- input
 
 taken_same : (line : ℕ) (reading : Reading) → plain.Steady (taken line reading)
-taken_same line (Integer z used) = plain.grows_next (plain.steady_pass _) (plain.steady_pure _)
+taken_same line (Integer z used) = grows_next (plain.steady_pass _) (steady_pure _)
 taken_same line NoMore = plain.steady_fault _ _
 taken_same line NoInteger = plain.steady_fault _ _
 
 next_same : (line : ℕ) (comma : Bool) → plain.Steady (next_integer line comma)
-next_same line comma = plain.grows_then plain.steady_unread (λ rest. taken_same line _)
+next_same line comma = grows_then plain.steady_unread (λ rest. taken_same line _)
 
 skip_same : (line : ℕ) (read : Bool) → plain.Steady (skip_record line read)
 skip_same line read =
-    plain.grows_then plain.steady_unread (λ rest. plain.grows_next (plain.steady_unless _ _ _) (plain.steady_pass _))
+    grows_then plain.steady_unread (λ rest. grows_next (plain.steady_unless _ _ _) (plain.steady_pass _))
 
 -- ---- all statements
 

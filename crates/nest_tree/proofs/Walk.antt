@@ -11,7 +11,7 @@ use Rattle.array_meaning.specs.Values.{integer_of}
 use Rattle.array_meaning.specs.State as source
 use Rattle.array_meaning.specs.State.{Dimension as Bounds, Array, Variable}
 use Rattle.array_meaning.specs.InputOutput.{next_integer, skip_record}
-use Rattle.array_meaning.specs.Control.{Flow, Next, Exits, Cycles, Returns}
+use Rattle.array_meaning.specs.Control.{Flow, Next, Exits, Cycles, Returns, behind}
 use Rattle.nest_tree.specs.declared.access.Access.{Access}
 use Rattle.nest_tree.specs.declared.access.Name.{Name}
 use Rattle.nest_tree.specs.declared.access.Name.TheVariants as name
@@ -33,7 +33,7 @@ use Rattle.nest_tree.specs.Places.{bounds_for, with_bounds, without_array, empti
 use Rattle.nest_tree.specs.Places.{freed_list}
 use Rattle.nest_tree.specs.Elements.{int, element, elements, where_true, guarded}
 use Rattle.nest_tree.specs.Statements.{Given, Caller, elements_back, with_held_elements, whole_back, in_a_row, result_back}
-use Rattle.nest_tree.specs.Statements.{all_back, applied, each_turn, loops, looped, behind, rounds, only_next, calmly, ends, put_if}
+use Rattle.nest_tree.specs.Statements.{all_back, applied, each_turn, loops, looped, rounds, only_next, calmly, ends, put_if}
 use Rattle.nest_tree.specs.Statements.{piece_acts, given_all, call_acts, test_acts, kept_truth, take_acts, truth, acts, all_act}
 use Rattle.nest_tree.specs.Frames.{Spot, ScalarAt, ListAt, ArrayAt, Is, InTree, InTrees, InGuard, InPassed, InStatement, InAll}
 

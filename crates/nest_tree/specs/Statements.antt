@@ -11,7 +11,7 @@ use Rattle.array_meaning.specs.Values.{integer_of, truth_of, size_of}
 use Rattle.array_meaning.specs.State as source
 use Rattle.array_meaning.specs.State.{Array, Variable, counted_from_one, fresh}
 use Rattle.array_meaning.specs.InputOutput.{next_integer, skip_record}
-use Rattle.array_meaning.specs.Control.{Flow, Next, Exits, Cycles, Returns}
+use Rattle.array_meaning.specs.Control.{Flow, Next, Exits, Cycles, Returns, behind, behind_turn}
 use Rattle.nest_tree.specs.declared.access.Access.{Access}
 use Rattle.nest_tree.specs.declared.access.Name.{Name}
 use Rattle.nest_tree.specs.declared.access.Name.TheVariants as name
@@ -103,19 +103,6 @@ loops body (level ∷ inner) extents turn =
 -- a nest without elements enters no loop
 abbrev pub looped : (List ℕ → Step (Unit {0})) → List Level → List ℕ → Step (Unit {0})
 looped body order extents = pick (nat_eq (size_of extents) 0) (pure tt) (loops body order extents (map (λ n. 0) extents))
-
--- behind one turn of a loop, and behind a statement of a list
-abbrev pub behind_turn : Flow → Step Flow → Step Flow
-behind_turn Next more = more
-behind_turn (Cycles zero) more = more
-behind_turn (Cycles (suc out)) more = pure (Cycles out)
-behind_turn (Exits zero) more = pure Next
-behind_turn (Exits (suc out)) more = pure (Exits out)
-behind_turn Returns more = pure Returns
-
-abbrev pub behind : Flow → Step Flow → Step Flow
-behind Next more = more
-behind flow more = pure flow
 
 abbrev pub one_turn : Step Flow → Step Flow → Step Flow
 one_turn body more = do

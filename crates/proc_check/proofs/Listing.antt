@@ -1,12 +1,12 @@
 -- The list of a unit's breaks has all that it breaks, and nothing else.
-use Rattle.std.proofs.Common.{ℕ, Bool, true, false, ◌&&◌, List, [], ◌∷◌, ◌++◌, refl, sym, subst, inl, inr, ◌≡◌, Option, Some, None}
-use Rattle.std.proofs.Common.{flat_map}
+use Rattle.std.proofs.Common.{ℕ, Bool, true, false, ◌&&◌, List, ◌++◌, refl, sym, subst, inl, inr, ◌≡◌, Option, Some, None}
 use Rattle.a95_base.specs.declared.breaks.Break.{Break}
-use Rattle.a95_base.specs.Breaks.{broken_at, first_of}
+use Rattle.a95_base.specs.Breaks.{broken_at}
 use Rattle.a95_base.specs.Lists.{Member}
 use Rattle.a95_base.specs.Rules.{wrong_arguments, wrong_out_argument, not_pure, not_elemental, not_recursive, lengths_differ}
-use Rattle.a95_base.proofs.First.{first_is_least}
-use Rattle.a95_base.proofs.Lists.{Member-append_left, Member-append_right, Member-append_cases}
+use Rattle.a95_base.proofs.First.{first_is_least, none_among}
+use Rattle.a95_base.proofs.Lists.{Member-append_left, Member-append_right, Member-append_cases, Member-flat_map}
+use Rattle.a95_base.proofs.Lists.{Member-from_flat_map}
 use Rattle.f95_unit.specs.Plain.{Entity, Program}
 use Rattle.proc_calls.specs.declared.caller.Caller.{Caller}
 use Rattle.proc_calls.specs.Interfaces.{is_pure}
@@ -25,21 +25,6 @@ use Rattle.proc_check.specs.Listed.{statement_breaks, breaks_behind_declarations
 use Rattle.proc_check.specs.Laws.{ListedAreBroken, FirstIsLeast, NoneIsUnbroken}
 
 -- ---- members of lists that are joined
-
-Member-flat_map : {A B : Type 0} (f : A → List B) (xs : List A) (x : A) (y : B) → Member xs x → Member (f x) y
-    → Member (flat_map f xs) y
-Member-flat_map f [] x y among m = absurd among
-Member-flat_map f (z ∷ zs) x y (inl e) m =
-    Member-append_left (f z) (flat_map f zs) y (subst (λ w. Member (f w) y) (sym e) m)
-Member-flat_map f (z ∷ zs) x y (inr h) m = Member-append_right (f z) (flat_map f zs) y (Member-flat_map f zs x y h m)
-
-Member-from_flat_map : {A B : Type 0} (f : A → List B) (xs : List A) (y : B) → Member (flat_map f xs) y
-    → (x : A) × (Member xs x × Member (f x) y)
-Member-from_flat_map f [] y m = absurd m
-Member-from_flat_map f (z ∷ zs) y m = elim (Member-append_cases (f z) (flat_map f zs) y m) [
-  | inl here ↦ (z, (inl refl, here))
-  | inr there ↦ let found = Member-from_flat_map f zs y there in (found.0, (inr found.1.0, found.1.1))
-]
 
 is_listed : (b : Bool) (line rule : ℕ) → b ≡ true → Member (broken_if b line rule) (broken_at line rule)
 is_listed true line rule e = inl refl
@@ -227,9 +212,5 @@ listed_are_broken u = record { sound = sound u; complete = complete u }
 pub first_is_least_of : FirstIsLeast
 first_is_least_of u b e = first_is_least (Breaks u) (breaks_of u) b (listed_are_broken u) e
 
-empty_or_first : (bs : List Break) → first_of bs ≡ None → (b : Break) → Member bs b → ⊥
-empty_or_first [] e b m = m
-empty_or_first (c ∷ cs) e b m = cc
-
 pub none_is_unbroken : NoneIsUnbroken
-none_is_unbroken u e line rule h = empty_or_first (breaks_of u) e (broken_at line rule) ((listed_are_broken u).complete line rule h)
+none_is_unbroken u e line rule h = none_among (breaks_of u) e (broken_at line rule) ((listed_are_broken u).complete line rule h)

@@ -1,10 +1,11 @@
 -- What a statement of the first form is: an assignment or a PRINT by itself, printed so.
-use Rattle.std.proofs.Common.{◌≡◌, ℕ, ◌+◌, ◌≤◌, arith, Bool, true, false, ◌&&◌, List, [], ◌∷◌, ◌++◌, map, length, Option, Some}
-use Rattle.std.proofs.Common.{None, refl, sym, ◌∙◌, ap, subst, length-append, append_assoc, append-nil}
-use Rattle.std.specs.List.{list_all}
+use Rattle.std.proofs.Common.{◌≡◌, ℕ, ◌+◌, ◌≤◌, arith, true, ◌&&◌, List, [], ◌∷◌, ◌++◌, map, length, Some}
+use Rattle.std.proofs.Common.{refl, sym, ◌∙◌, ap, subst, length-append, append_assoc, append-nil}
 use Rattle.std.proofs.lemmas.List.{length-map}
+use Rattle.std.proofs.lemmas.Bool.{and_parts}
+use Rattle.std.proofs.lemmas.Option.{same_Some}
 use Rattle.f95_tree.specs.declared.terminal.Punctuation.TheVariants as mark
-use Rattle.f95_tree.specs.Forms.{Word, action_text, assignment_text}
+use Rattle.f95_tree.specs.Forms.{Word, action_text}
 use Rattle.f95_tree.specs.Spelling.{Text, punctuated, expression, reference, behind_commas}
 use Rattle.f95_tree.specs.declared.expression.Expression.{Expression}
 use Rattle.f95_tree.specs.declared.expression.Expression.TheVariants as e
@@ -13,16 +14,14 @@ use Rattle.f95_tree.specs.declared.expression.Reference.TheVariants as r
 use Rattle.f95_tree.specs.declared.action.Action.{Action}
 use Rattle.f95_tree.specs.declared.action.Action.TheVariants as act
 use Rattle.f95_tree.specs.declared.action.Assignment.{Assignment}
-use Rattle.f95_tree.proofs.Nodes.{expression-Reference, reference-Whole}
+use Rattle.f95_tree.proofs.Nodes.{reference-Whole}
 use Rattle.rank_one.specs.declared.form.NamedAction.{NamedAction}
 use Rattle.rank_one.specs.declared.form.NamedAction.TheVariants as action
-use Rattle.rank_one.specs.declared.form.NamedSum.{NamedSum}
 use Rattle.rank_one.specs.declared.form.NamedFactor.{NamedFactor}
 use Rattle.rank_one.specs.declared.form.NamedFactor.TheVariants as factor
-use Rattle.rank_one.specs.Forms.{◌>>=◌, term_in, factor_in, whole, sum_in, sole_factor, name_of_factor, number_of_factor, name_in}
+use Rattle.rank_one.specs.Forms.{◌>>=◌, term_in, whole, sum_in, sole_factor, name_of_factor, number_of_factor, name_in}
 use Rattle.rank_one.specs.Forms.{constant_in, names_from, print_in, assignment_in, action_in}
-use Rattle.rank_one.specs.Grammar.{number_tree, name_tree, factor_tree, sum_tree, action_tree, fits_factor, fits_sum, fits_action}
-use Rattle.rank_one.proofs.Choices.{both, some_is}
+use Rattle.rank_one.specs.Grammar.{number_tree, name_tree, factor_tree, sum_tree, action_tree, fits_factor, fits_action}
 use Rattle.rank_one.proofs.Printed.{bound, Known, known, whole_is, one_term, term_of, term_is, factor_is, sum_size}
 
 -- what is one factor is printed so
@@ -34,14 +33,14 @@ pub sole_known : (x : Expression) (f : NamedFactor) → sole_factor x ≡ Some f
 sole_known x f h = bound (sum_in x) _ f h (λ s is more. bound (term_in s) _ f more (λ t is' last.
     let one : s ≡ one_term (term_of f) = term_is s t is' ∙ ap one_term (factor_is t f last) in
     let k = subst (Known x) one (known x s is) in
-    record { tree = k.tree; fits = (both (fits_factor f) true (both (fits_factor f && true) true k.fits).0).0 }))
+    record { tree = k.tree; fits = (and_parts (fits_factor f) true (and_parts (fits_factor f && true) true k.fits).0).0 }))
 
 named_factor : (f : NamedFactor) (n : Word) → name_of_factor f ≡ Some n → f ≡ factor.Name n
-named_factor (factor.Name m) n h = ap factor.Name (some_is m n h)
+named_factor (factor.Name m) n h = ap factor.Name (same_Some m n h)
 named_factor (factor.Number m) n h = absurd (cc)
 
 numbered_factor : (f : NamedFactor) (n : ℕ) → number_of_factor f ≡ Some n → f ≡ factor.Number n
-numbered_factor (factor.Number m) n h = ap factor.Number (some_is m n h)
+numbered_factor (factor.Number m) n h = ap factor.Number (same_Some m n h)
 numbered_factor (factor.Name m) n h = absurd (cc)
 
 pub name_known : (x : Expression) (n : Word) → name_in x ≡ Some n → name_tree n ≡ x
@@ -61,7 +60,7 @@ pub record Names (names : List Word) (xs : List Expression) (all : List Word) : 
   pub trees : map name_tree more ≡ xs
 
 pub names_known : (names : List Word) (xs : List Expression) (all : List Word) → names_from names xs ≡ Some all → Names names xs all
-names_known names [] all h = record { more = []; all_is = append-nil names ∙ some_is names all h; trees = refl }
+names_known names [] all h = record { more = []; all_is = append-nil names ∙ same_Some names all h; trees = refl }
 names_known names (x ∷ xs) all h = bound (name_in x) _ all h (λ n is last.
     let rest = names_known (names ++ n ∷ []) xs all last in
     record {
@@ -80,18 +79,15 @@ pub record Acted (a : Action) (n : NamedAction) : Type 0 where
   pub fits : fits_action n ≡ true
   pub few : action_size n ≤ length (action_text a)
 
-behind_few : (xs : List Text) → length xs ≤ length (behind_commas xs)
+pub behind_few : (xs : List Text) → length xs ≤ length (behind_commas xs)
 behind_few [] = omega arith
 behind_few (x ∷ xs) = let more = behind_few xs in let apart = length-append x (behind_commas xs) in omega (arith, more, apart)
-
-pub commas_few : (xs : List Text) → length xs ≤ length (behind_commas xs)
-commas_few = behind_few
 
 print_known : (xs : List Expression) (n : NamedAction) → print_in xs ≡ Some n → Acted (act.Print xs) n
 print_known [] n h = absurd (cc)
 print_known (x ∷ xs) n h = bound (name_in x) _ n h (λ first is more. bound (names_from [] xs) _ n more (λ rest is' last.
     let names = names_known [] xs rest is' in
-    subst (Acted (act.Print (x ∷ xs))) (some_is (action.Print first rest) n last) (record {
+    subst (Acted (act.Print (x ∷ xs))) (same_Some (action.Print first rest) n last) (record {
       tree = ap (λ y. act.Print (y ∷ map name_tree rest)) (name_known x first is)
           ∙ ap (λ ys. act.Print (x ∷ ys)) (ap (map name_tree) (sym names.all_is) ∙ names.trees);
       fits = refl;
@@ -110,7 +106,7 @@ assignment_with to value = record { to = to; value = value }
 assignment_known : (a : Assignment) (n : NamedAction) → assignment_in a.to a.value ≡ Some n → Acted (act.Assignment a) n
 assignment_known a n h = bound (whole a.to) _ n h (λ target is more. bound (sum_in a.value) _ n more (λ s is' last.
     let k = known a.value s is' in
-    subst (Acted (act.Assignment a)) (some_is (action.Assign target s) n last) (record {
+    subst (Acted (act.Assignment a)) (same_Some (action.Assign target s) n last) (record {
       tree = ap (λ t. act.Assignment (assignment_with t (sum_tree s))) (whole_is a.to target is)
           ∙ ap (λ v. act.Assignment (assignment_with a.to v)) k.tree;
       fits = k.fits;

@@ -1,8 +1,9 @@
 -- What is printed in the first form is of it.
-use Rattle.std.proofs.Common.{◌≡◌, ℕ, pos, Bool, true, false, ◌&&◌, List, [], ◌∷◌, ◌++◌, map, fold, Option, Some, None, refl, sym}
+use Rattle.std.proofs.Common.{◌≡◌, ℕ, pos, Bool, true, false, List, [], ◌∷◌, ◌++◌, map, fold, Option, Some, None, refl, sym}
 use Rattle.std.proofs.Common.{◌∙◌, ap, append_assoc, append-nil}
 use Rattle.std.specs.List.{list_all}
 use Rattle.a95_base.specs.declared.source.Line.{Line}
+use Rattle.std.proofs.lemmas.Bool.{and_parts}
 use Rattle.f95_tree.specs.Forms.{Word}
 use Rattle.f95_tree.specs.declared.action.Action.{Action}
 use Rattle.f95_tree.specs.declared.expression.Expression.{Expression}
@@ -21,12 +22,12 @@ use Rattle.rank_one.specs.declared.form.NamedAddend.{NamedAddend}
 use Rattle.rank_one.specs.declared.form.NamedTerm.{NamedTerm}
 use Rattle.rank_one.specs.declared.form.NamedFactor.{NamedFactor}
 use Rattle.rank_one.specs.declared.form.NamedFactor.TheVariants as factor
-use Rattle.rank_one.specs.Forms.{◌>>=◌, number_in, one_factor, term_in, factor_in, joined, added, whole, sum_in, sole_factor}
+use Rattle.rank_one.specs.Forms.{◌>>=◌, one_factor, term_in, factor_in, joined, added, sum_in}
 use Rattle.rank_one.specs.Forms.{name_of_factor, number_of_factor, name_in, constant_in, names_from, action_in, named_at, named_in}
 use Rattle.rank_one.specs.Forms.{array_in, arrays_from, arrays_in}
 use Rattle.rank_one.specs.Grammar.{number_tree, name_tree, factor_tree, times, term_tree, sign_of, plus, sum_tree, action_tree}
 use Rattle.rank_one.specs.Grammar.{array_tree, declaration_tree, is_integer_value, fits_factor, fits_term, fits_sum, fits_action}
-use Rattle.rank_one.proofs.Choices.{yes, both}
+use Rattle.rank_one.proofs.Choices.{yes}
 use Rattle.rank_one.proofs.Nodes.{sum-Literal, sum-Reference, sum-Binary, whole-Whole}
 use Rattle.rank_one.proofs.Printed.{one_term, term_of}
 
@@ -55,13 +56,13 @@ factors_again : (rest : List NamedFactor) (x : Expression) (t : NamedTerm) → s
     → sum_in (fold times x rest) ≡ Some (one_term (term_with t.first (t.rest ++ rest)))
 factors_again [] x t h fits = h ∙ ap (λ more. Some (one_term (term_with t.first more))) (sym (append-nil t.rest))
 factors_again (f ∷ rest) x t h fits =
-    let two = both (fits_factor f) (list_all fits_factor rest) fits in
+    let two = and_parts (fits_factor f) (list_all fits_factor rest) fits in
     factors_again rest (times x f) (term_with t.first (t.rest ++ f ∷ [])) (times_again x t f h two.0) two.1
     ∙ ap (λ more. Some (one_term (term_with t.first more))) (append_assoc t.rest (f ∷ []) rest)
 
 term_again : (t : NamedTerm) → fits_term t ≡ true → sum_in (term_tree t) ≡ Some (one_term t)
 term_again t fits =
-    let two = both (fits_factor t.first) (list_all fits_factor t.rest) fits in
+    let two = and_parts (fits_factor t.first) (list_all fits_factor t.rest) fits in
     factors_again t.rest (factor_tree t.first) (term_of t.first) (factor_again t.first two.0) two.1
 
 joined_again : (minus : Bool) (a b : NamedSum) → joined (sign_of minus) a b ≡ added minus a b
@@ -81,13 +82,13 @@ addends_again : (rest : List NamedAddend) (x : Expression) (s : NamedSum) → su
     → sum_in (fold plus x rest) ≡ Some (sum_with s.first (s.rest ++ rest))
 addends_again [] x s h fits = h ∙ ap (λ more. Some (sum_with s.first more)) (sym (append-nil s.rest))
 addends_again (a ∷ rest) x s h fits =
-    let two = both (fits_term a.term) (list_all (λ (b : NamedAddend). fits_term b.term) rest) fits in
+    let two = and_parts (fits_term a.term) (list_all (λ (b : NamedAddend). fits_term b.term) rest) fits in
     addends_again rest (plus x a) (sum_with s.first (s.rest ++ a ∷ [])) (plus_again x s a h two.0) two.1
     ∙ ap (λ more. Some (sum_with s.first more)) (append_assoc s.rest (a ∷ []) rest)
 
 pub sum_again : (s : NamedSum) → fits_sum s ≡ true → sum_in (sum_tree s) ≡ Some s
 sum_again s fits =
-    let two = both (fits_term s.first) (list_all (λ (a : NamedAddend). fits_term a.term) s.rest) fits in
+    let two = and_parts (fits_term s.first) (list_all (λ (a : NamedAddend). fits_term a.term) s.rest) fits in
     addends_again s.rest (term_tree s.first) (one_term s.first) (term_again s.first two.0) two.1
 
 name_again : (n : Word) → name_in (name_tree n) ≡ Some n
@@ -126,7 +127,7 @@ arrays_again : (arrays more : List NamedArray) → list_all (λ (a : NamedArray)
     → arrays_from arrays (map array_tree more) ≡ Some (arrays ++ more)
 arrays_again arrays [] h = ap Some (sym (append-nil arrays))
 arrays_again arrays (a ∷ more) h =
-    let two = both (is_integer_value a.extent) (list_all (λ (b : NamedArray). is_integer_value b.extent) more) h in
+    let two = and_parts (is_integer_value a.extent) (list_all (λ (b : NamedArray). is_integer_value b.extent) more) h in
     ap (λ (o : Option NamedArray). o >>= λ m. arrays_from (arrays ++ m ∷ []) (map array_tree more)) (array_again a two.0)
     ∙ (arrays_again (arrays ++ a ∷ []) more two.1 ∙ ap Some (append_assoc arrays (a ∷ []) more))
 

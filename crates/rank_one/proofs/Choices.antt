@@ -1,7 +1,6 @@
 -- Choices by a test.
-use Rattle.std.proofs.Common.{◌≡◌, Bool, false, true, cond, refl, ap, sym, ◌∙◌, ◌&&◌, ◌||◌, Option, Some, None}
-use Rattle.std.proofs.lemmas.Bool.{false≢true}
-use Rattle.std.specs.Option.{option_map, option_and_then}
+use Rattle.std.proofs.Common.{◌≡◌, Bool, false, true, cond, refl, ap, Option, Some}
+use Rattle.std.proofs.lemmas.Option.{same_Some}
 
 -- a choice by a test whose answer is known
 pub yes : {A : Type 0} {b : Bool} (x y : A) → b ≡ true → cond b x y ≡ x
@@ -15,20 +14,7 @@ pub by_test : {P : Type 0} (b : Bool) → (b ≡ true → P) → (b ≡ false �
 by_test true on_true on_false = on_true refl
 by_test false on_true on_false = on_false refl
 
--- both hold
-pub both : (a b : Bool) → (a && b) ≡ true → (a ≡ true) × (b ≡ true)
-both true b h = (refl, h)
-both false b h = (h, absurd (false≢true h))
-
-pub both_hold : (a b : Bool) → a ≡ true → b ≡ true → (a && b) ≡ true
-both_hold true b h k = k
-both_hold false b h k = h
-
--- what an option holds
-pub some_is : {A : Type 0} (x y : A) → Some x ≡ Some y → x ≡ y
-some_is x y h = cc
-
 pub pair_is : {A B : Type 0} (a c : A) (b d : B) → ◌≡◌ {A = Option (A × B)} (Some (a, b)) (Some (c, d)) → (a ≡ c) × (b ≡ d)
 pair_is {A} {B} a c b d h =
-    let e : ◌≡◌ {A = A × B} (a, b) (c, d) = some_is {A = A × B} (a, b) (c, d) h in
+    let e : ◌≡◌ {A = A × B} (a, b) (c, d) = same_Some {A = A × B} (a, b) (c, d) h in
     (ap (λ (p : A × B). p.0) e, ap (λ (p : A × B). p.1) e)

@@ -1,23 +1,23 @@
 -- What is noted along a source is exactly what it breaks.
-use Rattle.std.proofs.Common.{◌≡◌, ℕ, ◌<◌, ◌⊎◌, inl, inr, ⊎_elim, Bool, true, false, not, ◌||◌, nat_lt, List, [], ◌∷◌, ◌++◌, map}
+use Rattle.std.proofs.Common.{◌≡◌, ℕ, ◌⊎◌, inl, inr, ⊎_elim, Bool, true, false, not, ◌||◌, nat_lt, List, [], ◌∷◌, ◌++◌, map}
 use Rattle.std.proofs.Common.{fold, Option, Some, None, refl, sym, ◌∙◌, ap, subst, cond, append_assoc, append-nil, suc}
 use Rattle.std.specs.Prelude.{is_some, unwrap_or}
 use Rattle.std.specs.List.{flat_map}
 use Rattle.std.specs.Option.{option_map}
 use Rattle.std.specs.Str.{bytes_eq}
-use Rattle.std.proofs.lemmas.Bool.{le-leb, leb-true, false≢true}
+use Rattle.std.proofs.lemmas.Bool.{le-leb, leb-true, not-true, or_left, or_right, or_cases}
 use Rattle.a95_base.specs.declared.breaks.Break.{Break}
 use Rattle.a95_base.specs.declared.source.Line.{Line}
-use Rattle.a95_base.specs.Breaks.{IsLeast, AreBroken, broken_at, first_of, first_from}
+use Rattle.a95_base.specs.Breaks.{IsLeast, AreBroken, broken_at, first_of, noted}
 use Rattle.a95_base.specs.Limits.{most_elements}
 use Rattle.a95_base.specs.Lists.{Member}
-use Rattle.a95_base.specs.Rules.{not_yet, undeclared}
-use Rattle.a95_base.proofs.First.{first_is_least}
-use Rattle.a95_base.proofs.Lists.{Member-append_left, Member-append_right, Member-append_cases, Member-map, Member-from_map, Split}
-use Rattle.a95_base.proofs.Lists.{split_at}
-use Rattle.f95_tree.specs.Forms.{Word}
+use Rattle.a95_base.specs.Rules.{not_yet}
+use Rattle.a95_base.proofs.First.{first_is_least, none_among, noted_here}
+use Rattle.a95_base.proofs.Lists.{Member-append_left, Member-append_right, Member-append_cases, Member-map, Member-from_map}
+use Rattle.a95_base.proofs.Lists.{split_at, Member-flat_map, Member-from_flat_map}
+use Rattle.a95_base.proofs.Texts.{same_bytes}
+use Rattle.a95_base.proofs.Tests.{or_assoc}
 use Rattle.f95_tree.specs.declared.declaration.Declaration.{Declaration}
-use Rattle.f95_tree.specs.declared.source.Module.{Module}
 use Rattle.f95_tree.specs.declared.source.Source.{Source}
 use Rattle.f95_tree.specs.declared.source.Statement.{Statement}
 use Rattle.f95_tree.specs.declared.source.Subprogram.{Subprogram}
@@ -26,54 +26,21 @@ use Rattle.rank_one.specs.declared.form.NamedArray.{NamedArray}
 use Rattle.rank_one.specs.declared.symbols.Symbol.{Symbol}
 use Rattle.rank_one.specs.Conditions.{place_of, is_conforming, is_declared}
 use Rattle.rank_one.specs.Forms.{arrays_in, named_in, statement_line}
-use Rattle.rank_one.specs.Noting.{noted, not_yet_at, undeclared_at, is_refused, symbols_breaks, arrays_breaks, declarations_breaks}
+use Rattle.rank_one.specs.Noting.{not_yet_at, undeclared_at, is_refused, symbols_breaks, arrays_breaks, declarations_breaks}
 use Rattle.rank_one.specs.Noting.{action_breaks, statement_breaks, implicit_breaks, procedures_breaks, module_break, use_break}
 use Rattle.rank_one.specs.Noting.{around_breaks, not_yet_breaks, name_breaks, names_breaks, undeclared_breaks}
 use Rattle.rank_one.specs.Reading.{symbol_on, with_symbol, symbols_in, declared_in, symbols_of, IsNotYet, has_module, has_use}
 use Rattle.rank_one.specs.Reading.{has_implicit, other_declaration, large_extent, declared_twice, other_statement, unequal_extents}
 use Rattle.rank_one.specs.Reading.{has_procedures, IsUndeclared, unknown_name, IsBuilt, AreDeclared}
 use Rattle.rank_one.proofs.Choices.{yes, no, by_test}
-use Rattle.rank_one.proofs.SymbolLaws.{no_place, place_cons, same_name}
+use Rattle.rank_one.proofs.SymbolLaws.{no_place, place_cons}
 
 -- ---- lists
-
-flat_from : {A B : Type 0} (f : A → List B) (xs : List A) (z : B) → Member (flat_map f xs) z →
-    (y : A) × (Member xs y × Member (f y) z)
-flat_from f [] z h = absurd h
-flat_from f (x ∷ xs) z h = ⊎_elim
-    (λ (k : Member (f x) z). (x, (inl refl, k)))
-    (λ (k : Member (flat_map f xs) z). let r = flat_from f xs z k in (r.0, (inr r.1.0, r.1.1)))
-    (Member-append_cases (f x) (flat_map f xs) z h)
-
-flat_into : {A B : Type 0} (f : A → List B) (xs : List A) (y : A) (z : B) → Member xs y → Member (f y) z → Member (flat_map f xs) z
-flat_into f [] y z h k = absurd h
-flat_into f (x ∷ xs) y z (inl e) k = Member-append_left (f x) (flat_map f xs) z (subst (λ w. Member (f w) z) (sym e) k)
-flat_into f (x ∷ xs) y z (inr h) k = Member-append_right (f x) (flat_map f xs) z (flat_into f xs y z h k)
 
 noted_is : (b : Bool) (x y : Break) → Member (noted b x) y → (b ≡ true) × (x ≡ y)
 noted_is true x y (inl e) = (refl, e)
 noted_is true x y (inr h) = absurd h
 noted_is false x y h = absurd h
-
-noted_here : (b : Bool) (x : Break) → b ≡ true → Member (noted b x) x
-noted_here true x h = inl refl
-noted_here false x h = absurd (false≢true h)
-
-not_true : (b : Bool) → not b ≡ true → b ≡ false
-not_true true h = absurd (false≢true h)
-not_true false h = refl
-
-either : (a b : Bool) → (a || b) ≡ true → (a ≡ true) ⊎ (b ≡ true)
-either true b h = inl refl
-either false b h = inr h
-
-first_true : (a b : Bool) → a ≡ true → (a || b) ≡ true
-first_true true b h = refl
-first_true false b h = absurd (false≢true h)
-
-second_true : (a b : Bool) → b ≡ true → (a || b) ≡ true
-second_true true b h = refl
-second_true false b h = h
 
 -- ---- names that are declared
 
@@ -88,10 +55,6 @@ Same a b = (name : List ℕ) → is_some (place_of a name) ≡ is_some (place_of
 tested : (b : Bool) (o : Option ℕ) → is_some (cond b (Some 0) o) ≡ (b || is_some o)
 tested true o = refl
 tested false o = refl
-
-grouped : (a b c : Bool) → (a || (b || c)) ≡ ((a || b) || c)
-grouped true b c = refl
-grouped false b c = refl
 
 found_cons : (s : Symbol) (symbols : List Symbol) (name : List ℕ) → is_some (place_of (s ∷ symbols) name)
     ≡ (bytes_eq s.name name || is_some (place_of symbols name))
@@ -112,16 +75,16 @@ found_push [] x name = found_cons x [] name
 found_push (s ∷ symbols) x name =
     found_cons s (symbols ++ x ∷ []) name
     ∙ (ap (λ b. bytes_eq s.name name || b) (found_push symbols x name)
-    ∙ (grouped (bytes_eq s.name name) (is_some (place_of symbols name)) (bytes_eq x.name name)
+    ∙ (sym (or_assoc (bytes_eq s.name name) (is_some (place_of symbols name)) (bytes_eq x.name name))
     ∙ ap (λ b. b || bytes_eq x.name name) (sym (found_cons s symbols name))))
 
 -- a name of equal bytes is the same
 same_found : (symbols : List Symbol) (x : Symbol) (name : List ℕ) → is_some (place_of symbols x.name) ≡ true
     → is_some (place_of symbols name) ≡ (is_some (place_of symbols name) || bytes_eq x.name name)
 same_found symbols x name h = by_test (bytes_eq x.name name)
-    (λ e. let is : is_some (place_of symbols name) ≡ true = ap (λ n. is_some (place_of symbols n)) (sym (same_name x.name name e))
+    (λ e. let is : is_some (place_of symbols name) ≡ true = ap (λ n. is_some (place_of symbols n)) (sym (same_bytes x.name name e))
     ∙ h in
-    is ∙ sym (first_true (is_some (place_of symbols name)) (bytes_eq x.name name) is))
+    is ∙ sym (or_left (is_some (place_of symbols name)) (bytes_eq x.name name) is))
     (λ e. sym (ap (λ b. is_some (place_of symbols name) || b) e ∙ ended (is_some (place_of symbols name))))
   where
     ended : (b : Bool) → (b || false) ≡ b
@@ -309,7 +272,7 @@ module _ (s : Source) where
       (λ (k : nat_lt most_elements r.it.array.extent ≡ true). large_extent r.it
       (subst (λ z. Member z r.it) (sym r.all_is) (Member-append_right r.before (r.it ∷ r.behind) r.it (inl refl)))
       (leb-true (suc most_elements) r.it.array.extent k))
-      (either (is_some (place_of r.before r.it.name)) (nat_lt most_elements r.it.array.extent) r.why))
+      (or_cases (is_some (place_of r.before r.it.name)) (nat_lt most_elements r.it.array.extent) r.why))
 
   declarations_sound : (b : Break) → Member (declarations_breaks [] decls) b → Says b
   declarations_sound b h = ⊎_elim
@@ -325,7 +288,7 @@ module _ (s : Source) where
   statement_sound x among None is b (inr h) = absurd h
   statement_sound x among (Some a) is b h =
       let two = noted_is (not (is_conforming (symbols_of s) a)) (not_yet_at (statement_line x)) b h in
-      subst Says two.1 (unequal_extents x among a is (not_true (is_conforming (symbols_of s) a) two.0))
+      subst Says two.1 (unequal_extents x among a is (not-true (is_conforming (symbols_of s) a) two.0))
 
   sound : (b : Break) → Member (not_yet_breaks s) b → Says b
   sound b h = ⊎_elim
@@ -333,7 +296,7 @@ module _ (s : Source) where
       (λ (k : Member (declarations_breaks [] decls ++ flat_map (statement_breaks (symbols_of s)) s.main.body) b). ⊎_elim
       (λ (m : Member (declarations_breaks [] decls) b). declarations_sound b m)
       (λ (m : Member (flat_map (statement_breaks (symbols_of s)) s.main.body) b).
-      let r = flat_from (statement_breaks (symbols_of s)) s.main.body b m in statement_sound r.0 r.1.0 (named_in r.0) refl b r.1.1)
+      let r = Member-from_flat_map (statement_breaks (symbols_of s)) s.main.body b m in statement_sound r.0 r.1.0 (named_in r.0) refl b r.1.1)
       (Member-append_cases (declarations_breaks [] decls) (flat_map (statement_breaks (symbols_of s)) s.main.body) b k))
       (Member-append_cases (around_breaks s)
       (declarations_breaks [] decls ++ flat_map (statement_breaks (symbols_of s)) s.main.body) b h)
@@ -353,7 +316,7 @@ module _ (s : Source) where
   in_body b x among h = Member-append_right (around_breaks s)
       (declarations_breaks [] decls ++ flat_map (statement_breaks (symbols_of s)) s.main.body) b
       (Member-append_right (declarations_breaks [] decls) (flat_map (statement_breaks (symbols_of s)) s.main.body) b
-      (flat_into (statement_breaks (symbols_of s)) s.main.body x b among h))
+      (Member-flat_map (statement_breaks (symbols_of s)) s.main.body x b among h))
 
   behind_modules : (b : Break) →
       Member (map use_break s.main.section.uses ++ (implicit_breaks s.main.section.implicit ++ procedures_breaks s.main.procedures))
@@ -383,9 +346,9 @@ module _ (s : Source) where
   complete _ _ (large_extent x among large) =
       let split = split_at (declared_in decls) x among in
       refused_noted split.before x split.behind split.is
-      (second_true _ (nat_lt most_elements x.array.extent) (le-leb (suc most_elements) x.array.extent large))
+      (or_right _ (nat_lt most_elements x.array.extent) (le-leb (suc most_elements) x.array.extent large))
   complete _ _ (declared_twice before x behind is found) =
-      refused_noted before x behind is (first_true (is_some (place_of before x.name)) (nat_lt most_elements x.array.extent) found)
+      refused_noted before x behind is (or_left (is_some (place_of before x.name)) (nat_lt most_elements x.array.extent) found)
   complete _ _ (other_statement x among is) =
       in_body _ x among
       (subst (λ o. Member (action_breaks (symbols_of s) (statement_line x) o) (not_yet_at (statement_line x))) (sym is)
@@ -410,31 +373,26 @@ module _ (s : Source) where
   name_sound x among None is b h = absurd h
   name_sound x among (Some a) is b h =
       let two = noted_is (not (is_declared (symbols_of s) a)) (undeclared_at (statement_line x)) b h in
-      subst (λ z. IsUndeclared s z.line z.rule) two.1 (unknown_name x among a is (not_true (is_declared (symbols_of s) a) two.0))
+      subst (λ z. IsUndeclared s z.line z.rule) two.1 (unknown_name x among a is (not-true (is_declared (symbols_of s) a) two.0))
 
   names_sound : (b : Break) → Member (undeclared_breaks s) b → IsUndeclared s b.line b.rule
   names_sound b h =
-      let r = flat_from (names_breaks (symbols_of s)) s.main.body b h in name_sound r.0 r.1.0 (named_in r.0) refl b r.1.1
+      let r = Member-from_flat_map (names_breaks (symbols_of s)) s.main.body b h in name_sound r.0 r.1.0 (named_in r.0) refl b r.1.1
 
   names_complete : (line rule : ℕ) → IsUndeclared s line rule → Member (undeclared_breaks s) (broken_at line rule)
   names_complete _ _ (unknown_name x among a is unknown) =
-      flat_into (names_breaks (symbols_of s)) s.main.body x (undeclared_at (statement_line x)) among
+      Member-flat_map (names_breaks (symbols_of s)) s.main.body x (undeclared_at (statement_line x)) among
       (subst (λ o. Member (name_breaks (symbols_of s) (statement_line x) o) (undeclared_at (statement_line x))) (sym is)
       (noted_here (not (is_declared (symbols_of s) a)) (undeclared_at (statement_line x)) (ap not unknown)))
 
   names_noted : AreBroken (IsUndeclared s) (undeclared_breaks s)
   names_noted = record { sound = names_sound; complete = names_complete }
 
--- none is noted where none comes first
-none_first : (bs : List Break) → first_of bs ≡ None → (b : Break) → Member bs b → ⊥
-none_first [] e b h = h
-none_first (x ∷ bs) e b h = absurd (cc)
-
 pub built_by : (s : Source) → first_of (not_yet_breaks s) ≡ None → IsBuilt s
-built_by s e = λ line rule h. none_first (not_yet_breaks s) e (broken_at line rule) (complete s line rule h)
+built_by s e = λ line rule h. none_among (not_yet_breaks s) e (broken_at line rule) (complete s line rule h)
 
 pub declared_by : (s : Source) → first_of (undeclared_breaks s) ≡ None → AreDeclared s
-declared_by s e = λ line rule h. none_first (undeclared_breaks s) e (broken_at line rule) (names_complete s line rule h)
+declared_by s e = λ line rule h. none_among (undeclared_breaks s) e (broken_at line rule) (names_complete s line rule h)
 
 pub form_refused : (s : Source) (f : Break) → first_of (not_yet_breaks s) ≡ Some f → IsLeast (IsNotYet s) f.line f.rule
 form_refused s f e = first_is_least (IsNotYet s) (not_yet_breaks s) f (are_noted s) e

@@ -1,22 +1,21 @@
 -- What is of the first form is printed so, its numbers are numbers of the language, and it is no larger than its spelling.
-use Rattle.std.proofs.Common.{◌≡◌, ℕ, ◌+◌, ◌≤◌, arith, pos, negsuc, nat_le, Bool, true, false, ◌&&◌, List, [], ◌∷◌, ◌++◌, map, fold}
-use Rattle.std.proofs.Common.{length, Option, Some, None, refl, sym, ◌∙◌, ap, subst, cond, length-append, append_assoc}
+use Rattle.std.proofs.Common.{◌≡◌, ℕ, ◌+◌, ◌≤◌, arith, pos, negsuc, nat_le, Bool, true, false, ◌&&◌, List, [], ◌∷◌, ◌++◌}
+use Rattle.std.proofs.Common.{length, Option, Some, None, refl, sym, ◌∙◌, ap, subst, length-append}
 use Rattle.std.specs.List.{list_all, sum_by}
 use Rattle.std.proofs.lemmas.List.Sums.{fold-append, sum_by-cons, sum_by-append}
+use Rattle.std.proofs.lemmas.Bool.{and_parts, and_from}
+use Rattle.std.proofs.lemmas.Option.{same_Some}
 use Rattle.f95_tree.specs.Forms.{Word}
 use Rattle.f95_tree.specs.Spelling.{expression, reference}
 use Rattle.f95_tree.specs.declared.expression.Expression.{Expression}
 use Rattle.f95_tree.specs.declared.expression.Expression.TheVariants as e
 use Rattle.f95_tree.specs.declared.expression.Reference.{Reference}
 use Rattle.f95_tree.specs.declared.expression.Reference.TheVariants as r
-use Rattle.f95_tree.specs.declared.expression.Item.{Item}
-use Rattle.f95_tree.specs.declared.expression.Value.{Value}
 use Rattle.f95_tree.specs.declared.expression.Literal.{Literal}
 use Rattle.f95_tree.specs.declared.expression.Literal.TheVariants as literal
 use Rattle.f95_tree.specs.declared.terminal.Terminal.TheVariants as terminal
 use Rattle.f95_tree.specs.declared.terminal.Operator.{Operator}
 use Rattle.f95_tree.specs.declared.terminal.Operator.TheVariants as operator
-use Rattle.f95_tree.specs.declared.terminal.Sign.{Sign}
 use Rattle.f95_tree.proofs.Induction.{ByNode, each_expression, each_reference}
 use Rattle.f95_tree.proofs.Nodes.{expression-Literal, expression-Reference, expression-Binary, reference-Whole}
 use Rattle.rank_one.specs.declared.form.NamedSum.{NamedSum}
@@ -26,9 +25,9 @@ use Rattle.rank_one.specs.declared.form.NamedFactor.{NamedFactor}
 use Rattle.rank_one.specs.declared.form.NamedFactor.TheVariants as factor
 use Rattle.rank_one.specs.Forms.{◌>>=◌, alone, natural_in, number_in, one_factor, term_in, factor_in, multiplied, added, joined}
 use Rattle.rank_one.specs.Forms.{whole, sum_in}
-use Rattle.rank_one.specs.Grammar.{number_tree, name_tree, factor_tree, times, term_tree, sign_of, plus, sum_tree, fits_factor}
+use Rattle.rank_one.specs.Grammar.{factor_tree, times, term_tree, sign_of, plus, sum_tree, fits_factor}
 use Rattle.rank_one.specs.Grammar.{fits_term, fits_sum}
-use Rattle.rank_one.proofs.Choices.{yes, no, by_test, both, both_hold, some_is}
+use Rattle.rank_one.proofs.Choices.{yes, no, by_test}
 use Rattle.rank_one.proofs.Nodes.{sum-Literal, sum-Reference, sum-Bracketed, sum-Constructor, sum-Signed, sum-Binary, whole-Whole}
 use Rattle.rank_one.proofs.Nodes.{whole-Items, whole-Substring}
 
@@ -38,12 +37,12 @@ bound None f y h k = absurd (cc)
 bound (Some x) f y h k = k x refl h
 
 pub alone_is : {A B : Type 0} (xs : List A) (y z : B) → alone xs y ≡ Some z → (xs ≡ []) × (y ≡ z)
-alone_is [] y z h = (refl, some_is y z h)
+alone_is [] y z h = (refl, same_Some y z h)
 alone_is (x ∷ xs) y z h = absurd (cc)
 
 pub natural_is : (m n : ℕ) → natural_in (pos m) ≡ Some n → (m ≡ n) × (nat_le n 2147483647 ≡ true)
 natural_is m n h = by_test (nat_le m 2147483647)
-    (λ small. let same = some_is m n (sym (yes (Some m) None small) ∙ h) in
+    (λ small. let same = same_Some m n (sym (yes (Some m) None small) ∙ h) in
     (same, subst (λ k. nat_le k 2147483647 ≡ true) same small))
     (λ large. absurd (cc (sym (no (Some m) None large) ∙ h)))
 
@@ -90,17 +89,17 @@ pub record Known (x : Expression) (s : NamedSum) : Type 0 where
 
 all_front : {A : Type 0} (test : A → Bool) (xs : List A) (y : A) → list_all test xs ≡ true → test y ≡ true →
     list_all test (xs ++ y ∷ []) ≡ true
-all_front test [] y h k = both_hold (test y) true k refl
+all_front test [] y h k = and_from (test y) true k refl
 all_front test (x ∷ xs) y h k =
-    let two = both (test x) (list_all test xs) h in both_hold (test x) (list_all test (xs ++ y ∷ [])) two.0
+    let two = and_parts (test x) (list_all test xs) h in and_from (test x) (list_all test (xs ++ y ∷ [])) two.0
     (all_front test xs y two.1 k)
 
 multiplied_known : (a b : Expression) (t : NamedTerm) (f : NamedFactor) → Known a (one_term t) → Known b (one_term (term_of f))
     → Known (e.Binary operator.Multiply a b) (one_term (term_with t.first (t.rest ++ f ∷ [])))
 multiplied_known a b t f ka kb =
-    let left = both (fits_term t) true ka.fits in
-    let own = both (fits_factor t.first) (list_all fits_factor t.rest) left.0 in
-    let right = both (fits_factor f) true (both (fits_factor f && true) true kb.fits).0 in
+    let left = and_parts (fits_term t) true ka.fits in
+    let own = and_parts (fits_factor t.first) (list_all fits_factor t.rest) left.0 in
+    let right = and_parts (fits_factor f) true (and_parts (fits_factor f && true) true kb.fits).0 in
     let spelled = ap length (expression-Binary operator.Multiply a b) in
     let apart = length-append (expression a) (terminal.Operator operator.Multiply ∷ expression b) in
     let more = length-append t.rest (f ∷ []) in
@@ -108,7 +107,7 @@ multiplied_known a b t f ka kb =
     record {
       tree = fold-append times (factor_tree t.first) t.rest (f ∷ [])
           ∙ (ap (λ x. e.Binary operator.Multiply x (factor_tree f)) ka.tree ∙ ap (λ y. e.Binary operator.Multiply a y) kb.tree);
-      fits = both_hold _ true (both_hold (fits_factor t.first) _ own.0 (all_front fits_factor t.rest f own.1 right.0)) refl;
+      fits = and_from _ true (and_from (fits_factor t.first) _ own.0 (all_front fits_factor t.rest f own.1 right.0)) refl;
       few = omega (arith, spelled, apart, more, first);
     }
 
@@ -116,8 +115,8 @@ added_known : (minus : Bool) (a b : Expression) (x : NamedSum) (t : NamedTerm) �
     → Known (e.Binary (sign_of minus) a b) (sum_with x.first (x.rest ++ record { minus = minus; term = t } ∷ []))
 added_known minus a b x t ka kb =
     let addend : NamedAddend = record { minus = minus; term = t } in
-    let left = both (fits_term x.first) (list_all (λ (m : NamedAddend). fits_term m.term) x.rest) ka.fits in
-    let right = both (fits_term t) true kb.fits in
+    let left = and_parts (fits_term x.first) (list_all (λ (m : NamedAddend). fits_term m.term) x.rest) ka.fits in
+    let right = and_parts (fits_term t) true kb.fits in
     let spelled = ap length (expression-Binary (sign_of minus) a b) in
     let apart = length-append (expression a) (terminal.Operator (sign_of minus) ∷ expression b) in
     let more = sum_by-append (λ (m : NamedAddend). term_size m.term) x.rest (addend ∷ []) in
@@ -127,7 +126,7 @@ added_known minus a b x t ka kb =
     record {
       tree = fold-append plus (term_tree x.first) x.rest (addend ∷ [])
           ∙ (ap (λ y. e.Binary (sign_of minus) y (term_tree t)) ka.tree ∙ ap (λ y. e.Binary (sign_of minus) a y) kb.tree);
-      fits = both_hold (fits_term x.first) _ left.0
+      fits = and_from (fits_term x.first) _ left.0
           (all_front (λ (m : NamedAddend). fits_term m.term) x.rest addend left.1 right.0);
       few = omega (arith, spelled, apart, more, one, first, second);
     }
@@ -136,7 +135,7 @@ times_known : (a b : Expression) (x y s : NamedSum) → Known a x → Known b y 
     Known (e.Binary operator.Multiply a b) s
 times_known a b x y s ka kb h =
     bound (term_in x) _ s h (λ t is more. bound (term_in y) _ s more (λ u is' more'. bound (factor_in u) _ s more' (λ f is'' last.
-    subst (Known (e.Binary operator.Multiply a b)) (some_is (one_term (term_with t.first (t.rest ++ f ∷ []))) s last)
+    subst (Known (e.Binary operator.Multiply a b)) (same_Some (one_term (term_with t.first (t.rest ++ f ∷ []))) s last)
     (multiplied_known a b t f (subst (Known a) (term_is x t is) ka)
     (subst (λ z. Known b (one_term z)) (factor_is u f is'') (subst (Known b) (term_is y u is') kb))))))
 
@@ -144,7 +143,7 @@ plus_known : (minus : Bool) (a b : Expression) (x y s : NamedSum) → Known a x 
     Known (e.Binary (sign_of minus) a b) s
 plus_known minus a b x y s ka kb h = bound (term_in y) _ s h (λ t is last.
     subst (Known (e.Binary (sign_of minus) a b))
-    (some_is (sum_with x.first (x.rest ++ record { minus = minus; term = t } ∷ [])) s last)
+    (same_Some (sum_with x.first (x.rest ++ record { minus = minus; term = t } ∷ [])) s last)
     (added_known minus a b x t ka (subst (Known b) (term_is y t is) kb)))
 
 joined_known : (op : Operator) (a b : Expression) (x y s : NamedSum) → Known a x → Known b y → joined op x y ≡ Some s →
@@ -174,9 +173,9 @@ on_literal : (l : Literal) → P (e.Literal l)
 on_literal l = λ s h. bound (number_in l) _ s (sym (sum-Literal l) ∙ h) (λ n is last.
     let number = number_is l n is in
     let spelled = ap length (expression-Literal l) in
-    subst (Known (e.Literal l)) (some_is (one_factor (factor.Number n)) s last) (record {
+    subst (Known (e.Literal l)) (same_Some (one_factor (factor.Number n)) s last) (record {
       tree = ap e.Literal (sym number.0);
-      fits = both_hold _ true (both_hold _ true number.1 refl) refl;
+      fits = and_from _ true (and_from _ true number.1 refl) refl;
       few = omega (arith, spelled);
     }))
 
@@ -184,7 +183,7 @@ on_reference : (x : Reference) → R x → P (e.Reference x)
 on_reference x k = λ s h. bound (whole x) _ s (sym (sum-Reference x) ∙ h) (λ n is last.
     let name = k n is in
     let spelled = ap length (expression-Reference x ∙ (ap reference (sym name) ∙ reference-Whole n)) in
-    subst (Known (e.Reference x)) (some_is (one_factor (factor.Name n)) s last) (record {
+    subst (Known (e.Reference x)) (same_Some (one_factor (factor.Name n)) s last) (record {
       tree = ap e.Reference name;
       fits = refl;
       few = omega (arith, spelled);
@@ -206,7 +205,7 @@ cases = record {
   on_plain = λ x p. tt;
   on_keyword = λ n x p. tt;
   on_triplet = λ a b c p q t. tt;
-  on_whole = λ n m h. ap r.Whole (some_is m n (sym (sym (whole-Whole n) ∙ h)));
+  on_whole = λ n m h. ap r.Whole (same_Some m n (sym (sym (whole-Whole n) ∙ h)));
   on_items = λ n items p m h. absurd (cc (sym (whole-Items n items) ∙ h));
   on_substring = λ n items a b p q t m h. absurd (cc (sym (whole-Substring n items a b) ∙ h));
   on_one = λ x p. tt;

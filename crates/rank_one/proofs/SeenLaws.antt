@@ -1,11 +1,11 @@
 -- What the names of a statement show.
-use Rattle.std.proofs.Common.{◌≡◌, ◌<◌, ◌+◌, ◌==◌, ◌&&◌, ℕ, suc, zero, Bool, false, true, List, [], ◌∷◌, ◌++◌, length, refl, sym}
-use Rattle.std.proofs.Common.{◌∙◌, ap, arith, cond, subst, Option, Some, None, get_or, take, map, append-nil}
+use Rattle.std.proofs.Common.{◌≡◌, ◌<◌, ◌+◌, ◌==◌, ◌&&◌, ℕ, Bool, false, true, List, [], ◌∷◌, ◌++◌, length, refl, sym}
+use Rattle.std.proofs.Common.{◌∙◌, ap, Option, Some, None, get_or, take, map, append-nil}
 use Rattle.std.specs.Prelude.{is_some}
 use Rattle.std.specs.List.{flat_map, filter_map, list_all, cons_option}
 use Rattle.std.proofs.lemmas.Grind.{flat_map-append}
-use Rattle.std.proofs.lemmas.Bool.Decides.{nat_tests}
 use Rattle.std.proofs.lemmas.List.{take_more, map_push}
+use Rattle.a95_base.proofs.Tests.{equals_itself, and-false}
 use Rattle.rank_one.specs.declared.symbols.Symbol.{Symbol}
 use Rattle.rank_one.specs.declared.resolve.Seen.{Seen}
 use Rattle.rank_one.specs.Conditions.{place_of, extent_of, all_equal}
@@ -48,16 +48,9 @@ and_true : (b : Bool) → b ≡ (b && true)
 and_true true = refl
 and_true false = refl
 
-and_false : (b : Bool) → (b && false) ≡ false
-and_false true = refl
-and_false false = refl
-
 and_grouped : (a b c : Bool) → ((a && b) && c) ≡ (a && (b && c))
 and_grouped true b c = refl
 and_grouped false b c = refl
-
-itself : (n : ℕ) → (n == n) ≡ true
-itself n = grind (arith, nat_tests)
 
 after_first_by : (symbols : List Symbol) (e : ℕ) (conforming declared : Bool) (names : List (List ℕ)) (o : Option ℕ)
     → ((c d : Bool) → (see_all symbols (record { extent = Some e; conforming = c; declared = d }) names).conforming
@@ -84,7 +77,7 @@ before_first_by : (symbols : List Symbol) (declared : Bool) (names : List (List 
 before_first_by symbols declared names None rest = rest false
 before_first_by symbols declared names (Some x) rest =
     after_first symbols x (x == x) declared names ∙ ap (λ b. b && list_all (λ y. y == x) (filter_map (extent_of symbols) names))
-    (itself x)
+    (equals_itself x)
 
 before_first : (symbols : List Symbol) (declared : Bool) (names : List (List ℕ))
     → (see_all symbols (record { extent = None; conforming = true; declared = declared }) names).conforming
@@ -105,7 +98,7 @@ declared_by : (symbols : List Symbol) (seen : Seen) (name : List ℕ) (names : L
     ≡ (seen.declared && (is_some o && list_all (λ n. is_some (place_of symbols n)) names))
 declared_by symbols seen name names None place rest =
     ap (λ x. (see_all symbols (seen_with seen x) names).declared) (no_extent symbols name place)
-    ∙ (rest (seen_with seen None) ∙ sym (and_false seen.declared))
+    ∙ (rest (seen_with seen None) ∙ sym (and-false seen.declared))
 declared_by symbols seen name names (Some k) place rest =
     let there = extent_there symbols name k (record { name = []; array = record { line = 0; extent = 0 } }) place in
     ap (λ x. (see_all symbols (seen_with seen x) names).declared) there.1 ∙ rest (seen_with seen (Some _))

@@ -1,10 +1,11 @@
 -- Statements and declarations of the first form, printed as they are.
-use Rattle.std.proofs.Common.{◌≡◌, ℕ, ◌+◌, ◌≤◌, arith, Bool, true, false, List, [], ◌∷◌, ◌++◌, map, length, Option, Some, None}
+use Rattle.std.proofs.Common.{◌≡◌, ℕ, ◌+◌, ◌≤◌, arith, Bool, true, List, [], ◌∷◌, ◌++◌, map, length, Option, Some, None}
 use Rattle.std.proofs.Common.{refl, sym, ◌∙◌, ap, subst, length-append, append_assoc, append-nil}
 use Rattle.std.proofs.lemmas.List.{length-map}
 use Rattle.a95_base.specs.declared.source.Line.{Line}
+use Rattle.std.proofs.lemmas.Option.{same_Some}
 use Rattle.f95_tree.specs.Forms.{Word, action_text, declaration_text, type_text, attribute_text, colons_text, entity_text}
-use Rattle.f95_tree.specs.Spelling.{Text, commas, behind_commas}
+use Rattle.f95_tree.specs.Spelling.{commas, behind_commas}
 use Rattle.f95_tree.specs.declared.expression.Expression.{Expression}
 use Rattle.f95_tree.specs.declared.action.Action.{Action}
 use Rattle.f95_tree.specs.declared.declaration.Declaration.{Declaration}
@@ -16,7 +17,7 @@ use Rattle.f95_tree.specs.declared.declaration.Dim.{Dim}
 use Rattle.f95_tree.specs.declared.declaration.Dim.TheVariants as dim
 use Rattle.f95_tree.specs.declared.source.Statement.{Statement, roll-Statement}
 use Rattle.f95_tree.specs.declared.source.Statement.TheVariants as statement
-use Rattle.f95_tree.specs.declared.source.Statement.TheOpen.{Statement-F, Branch-F, Case-F, Otherwise-F}
+use Rattle.f95_tree.specs.declared.source.Statement.TheOpen.{Statement-F}
 use Rattle.f95_tree.specs.declared.source.Statement.TheOpen as layer
 use Rattle.f95_tree.specs.declared.source.Statement.TheFolds.{ind-Statement, map-Statement, fold-roll-Statement}
 use Rattle.f95_tree.specs.declared.source.Branch.{Branch}
@@ -24,13 +25,13 @@ use Rattle.f95_tree.specs.declared.source.Case.{Case}
 use Rattle.f95_tree.specs.declared.source.Otherwise.{Otherwise}
 use Rattle.rank_one.specs.declared.form.NamedAction.{NamedAction}
 use Rattle.rank_one.specs.declared.form.NamedArray.{NamedArray}
-use Rattle.rank_one.specs.Forms.{◌>>=◌, alone, action_in, named_at, named_in, constant_in, bound_in, extent_in, array_with}
+use Rattle.rank_one.specs.Forms.{◌>>=◌, alone, named_at, named_in, bound_in, extent_in, array_with}
 use Rattle.rank_one.specs.Forms.{array_in, arrays_from, is_integer, arrays_in}
-use Rattle.rank_one.specs.Grammar.{number_tree, action_tree, fits_action, array_tree, declaration_tree}
+use Rattle.rank_one.specs.Grammar.{number_tree, array_tree, declaration_tree}
 use Rattle.rank_one.specs.Sizes.{terminals_at, statement_terminals}
-use Rattle.rank_one.proofs.Choices.{yes, no, by_test, some_is}
+use Rattle.rank_one.proofs.Choices.{yes, no, by_test}
 use Rattle.rank_one.proofs.Printed.{bound, alone_is}
-use Rattle.rank_one.proofs.Acts.{constant_known, Acted, action_known, commas_few}
+use Rattle.rank_one.proofs.Acts.{constant_known, Acted, action_known, behind_few}
 
 -- ---- statements
 
@@ -119,7 +120,7 @@ array_known_with : (n : Word) (dims : Option (List Dim)) (initial : Option Expre
     ≡ Some a
     → array_tree a ≡ entity_with n dims initial
 array_known_with n (Some dims) None a h = bound (extent_in dims) _ a h (λ k is last.
-    ap array_tree (sym (some_is (record { name = n; extent = k }) a last))
+    ap array_tree (sym (same_Some (record { name = n; extent = k }) a last))
     ∙ ap (λ ds. entity_with n (Some ds) None) (extent_known dims k is))
 array_known_with n None None a h = absurd (cc)
 array_known_with n None (Some _) a h = absurd (cc)
@@ -135,7 +136,7 @@ pub record Arrays (arrays : List NamedArray) (xs : List Entity) (all : List Name
 
 pub arrays_known : (arrays : List NamedArray) (xs : List Entity) (all : List NamedArray) → arrays_from arrays xs ≡ Some all →
     Arrays arrays xs all
-arrays_known arrays [] all h = record { more = []; all_is = append-nil arrays ∙ some_is arrays all h; trees = refl }
+arrays_known arrays [] all h = record { more = []; all_is = append-nil arrays ∙ same_Some arrays all h; trees = refl }
 arrays_known arrays (x ∷ xs) all h = bound (array_in x) _ all h (λ a is last.
     let rest = arrays_known (arrays ++ a ∷ []) xs all last in
     record {
@@ -183,7 +184,7 @@ declaration_few d arrays h =
     entities_few : (xs : List Entity) → length xs ≤ length (commas (map entity_text xs))
     entities_few [] = omega arith
     entities_few (x ∷ xs) =
-        let more = commas_few (map entity_text xs) in
+        let more = behind_few (map entity_text xs) in
         let apart = length-append (entity_text x) (behind_commas (map entity_text xs)) in
         let same = length-map xs entity_text in
         omega (arith, more, apart, same)

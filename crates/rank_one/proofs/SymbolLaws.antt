@@ -1,13 +1,15 @@
 -- Arrays are found by their names.
-use Rattle.std.proofs.Common.{◌≡◌, ◌<◌, ◌+◌, ℕ, suc, zero, Bool, false, true, List, [], ◌∷◌, ◌++◌, length, refl, sym, ◌∙◌, ap}
-use Rattle.std.proofs.Common.{arith, cond, subst, Option, Some, None, get_or}
+use Rattle.std.proofs.Common.{◌≡◌, ◌<◌, ◌+◌, ℕ, suc, Bool, false, true, List, [], ◌∷◌, ◌++◌, length, refl, sym, ◌∙◌, ap}
+use Rattle.std.proofs.Common.{arith, cond, Option, Some, None, get_or}
 use Rattle.std.specs.Option.{option_map}
 use Rattle.std.proofs.lemmas.Bool.{false≢true}
 use Rattle.std.specs.Str.{bytes_eq}
 use Rattle.std.proofs.lemmas.Slice.Eq.{bytes_eq-Decides}
+use Rattle.std.proofs.lemmas.Option.{same_Some}
+use Rattle.a95_base.proofs.Texts.{same_bytes}
 use Rattle.rank_one.specs.declared.symbols.Symbol.{Symbol}
 use Rattle.rank_one.specs.Conditions.{place_of, extent_of}
-use Rattle.rank_one.proofs.Choices.{yes, no, by_test, some_is}
+use Rattle.rank_one.proofs.Choices.{yes, no, by_test}
 
 pub no_place : (name : List ℕ) → place_of [] name ≡ None
 unfolding place_of
@@ -15,7 +17,7 @@ no_place name = refl
 
 map_some : (o : Option ℕ) (k : ℕ) → option_map suc o ≡ Some k → (P : Type 0) → ((j : ℕ) → o ≡ Some j → k ≡ suc j → P) → P
 map_some None k h P f = absurd (cc)
-map_some (Some j) k h P f = f j refl (sym (some_is (suc j) k h))
+map_some (Some j) k h P f = f j refl (sym (same_Some (suc j) k h))
 
 pub place_cons : (s : Symbol) (symbols : List Symbol) (name : List ℕ) → place_of (s ∷ symbols) name
     ≡ cond (bytes_eq s.name name) (Some 0) (option_map suc (place_of symbols name))
@@ -34,7 +36,7 @@ extent_there [] name k d h = absurd (cc (h, no_place name))
 extent_there (s ∷ symbols) name k d h = by_test (bytes_eq s.name name)
     (λ same.
     let first : 0 ≡ k =
-    some_is 0 k (sym (place_cons s symbols name ∙ yes (Some 0) (option_map suc (place_of symbols name)) same) ∙ h) in
+    same_Some 0 k (sym (place_cons s symbols name ∙ yes (Some 0) (option_map suc (place_of symbols name)) same) ∙ h) in
     (omega arith, extent_cons s symbols name ∙ (yes _ _ same ∙ ap (λ n. Some (get_or (s ∷ symbols) n d).array.extent) first)))
     (λ other. map_some (place_of symbols name) k
     (sym (place_cons s symbols name ∙ no (Some 0) (option_map suc (place_of symbols name)) other) ∙ h) _
@@ -57,21 +59,14 @@ no_extent (s ∷ symbols) name h =
     let none = none_of (bytes_eq s.name name) (place_of symbols name) (sym (place_cons s symbols name) ∙ h) in
     no _ _ none.0 ∙ no_extent symbols name none.1
 
--- equal bytes are one name, and other bytes another
-pub same_name : (a b : List ℕ) → bytes_eq a b ≡ true → a ≡ b
-same_name a b h = (bytes_eq-Decides a b).0 h
-
 pub other_name : (a b : List ℕ) → bytes_eq a b ≡ false → a ≡ b → ⊥
 other_name a b h same = false≢true (sym h ∙ (bytes_eq-Decides a b).1 same)
-
-pub own_name : (a : List ℕ) → bytes_eq a a ≡ true
-own_name a = by_test (bytes_eq a a) (λ h. h) (λ h. absurd (other_name a a h refl))
 
 pushed : (s t : Symbol) (n : ℕ) (o : Option ℕ) (name : List ℕ) (b : Bool) → bytes_eq t.name name ≡ b → bytes_eq s.name t.name
     ≡ false
     → cond (bytes_eq s.name name) (Some 0) (option_map suc (cond b (Some n) o))
     ≡ cond b (Some (suc n)) (cond (bytes_eq s.name name) (Some 0) (option_map suc o))
-pushed s t n o name true same apart = no _ _ (ap (bytes_eq s.name) (sym (same_name t.name name same)) ∙ apart)
+pushed s t n o name true same apart = no _ _ (ap (bytes_eq s.name) (sym (same_bytes t.name name same)) ∙ apart)
 pushed s t n o name false same apart = refl
 
 -- an array with a new name is found behind those before it

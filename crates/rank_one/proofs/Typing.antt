@@ -1,17 +1,17 @@
 -- What a source of the first form is, is typed, and no larger than its spelling.
 use Rattle.std.proofs.Common.{◌≡◌, ◌<◌, ◌≤◌, ◌+◌, ◌^◌, ℕ, suc, zero, Bool, false, true, ◌&&◌, List, [], ◌∷◌, ◌++◌, length, refl}
-use Rattle.std.proofs.Common.{sym, ◌∙◌, ap, arith, subst, nat_le, nat_lt, length-append, cond, fold, Option, Some, None, get_or}
+use Rattle.std.proofs.Common.{sym, ◌∙◌, ap, arith, subst, nat_le, nat_lt, length-append, fold, Option, Some, None, get_or}
 use Rattle.std.proofs.Common.{inl, inr, ⊎_elim}
-use Rattle.std.specs.Prelude.{◌==◌, map, is_some, unwrap_or, IsTrue}
+use Rattle.std.specs.Prelude.{◌==◌, map, is_some, unwrap_or}
 use Rattle.std.specs.List.{list_all, flat_map, filter_map, sum_by, cons_option}
 use Rattle.std.proofs.lemmas.List.Sums.{sum_by-cons, sum_by-append}
-use Rattle.std.proofs.lemmas.List.{length-map, map-append}
+use Rattle.std.proofs.lemmas.List.{length-map}
 use Rattle.std.proofs.lemmas.Bool.Decides.{nat_tests}
-use Rattle.std.proofs.lemmas.Bool.{le-leb, leb-true, cases_lt}
+use Rattle.std.proofs.lemmas.Bool.{le-leb, cases_lt, and_parts}
 use Rattle.a95_base.specs.Lists.{Every, Member}
 use Rattle.a95_base.specs.Limits.{most_elements}
 use Rattle.a95_base.specs.declared.source.Line.{Line}
-use Rattle.a95_base.proofs.Lists.{each_has, each_from_has, Member-append_cases, Every-append}
+use Rattle.a95_base.proofs.Lists.{each_from_has, Every-append, list_all_parts}
 use Rattle.f95_tree.specs.Forms.{declaration_text}
 use Rattle.f95_tree.specs.declared.declaration.Declaration.{Declaration}
 use Rattle.f95_tree.specs.declared.source.Source.{Source}
@@ -19,7 +19,6 @@ use Rattle.f95_tree.specs.declared.source.Statement.{Statement}
 use Rattle.rank_one.specs.declared.unit.Array.{Array}
 use Rattle.rank_one.specs.declared.unit.Statement as typed
 use Rattle.rank_one.specs.declared.unit.Addend.{Addend}
-use Rattle.rank_one.specs.declared.unit.Factor.{Factor}
 use Rattle.rank_one.specs.declared.form.NamedAction.{NamedAction}
 use Rattle.rank_one.specs.declared.form.NamedAction.TheVariants as action
 use Rattle.rank_one.specs.declared.form.NamedArray.{NamedArray}
@@ -29,7 +28,7 @@ use Rattle.rank_one.specs.declared.form.NamedTerm.{NamedTerm}
 use Rattle.rank_one.specs.declared.form.NamedFactor.{NamedFactor}
 use Rattle.rank_one.specs.declared.form.NamedFactor.TheVariants as factor
 use Rattle.rank_one.specs.declared.symbols.Symbol.{Symbol}
-use Rattle.rank_one.specs.Conditions.{place_of, extent_of, names_in_factor, names_in_term, names_in_sum, names_in, is_declared}
+use Rattle.rank_one.specs.Conditions.{place_of, extent_of, names_in_factor, names_in_term, names_in_sum, is_declared}
 use Rattle.rank_one.specs.Conditions.{is_conforming, all_equal}
 use Rattle.rank_one.specs.Forms.{arrays_in, named_in, statement_line}
 use Rattle.rank_one.specs.Grammar.{fits_factor, fits_term, fits_sum, fits_action}
@@ -37,18 +36,13 @@ use Rattle.rank_one.specs.Placing.{placed_name, placed_factor, placed_term, plac
 use Rattle.rank_one.specs.Reading.{symbol_on, with_symbol, symbols_in, declared_in, symbols_of, acted, statement_in, unit_of}
 use Rattle.rank_one.specs.Reading.{IsBuilt, AreDeclared, large_extent, unequal_extents, unknown_name, LineFits, StatementFits, Fits}
 use Rattle.rank_one.specs.Sizes.{statement_terminals, terminals_in}
-use Rattle.rank_one.specs.Typed.{size_of_term, size_of_sum, size_of_action, size_of, factors_of_term, factors_of, has_extent}
+use Rattle.rank_one.specs.Typed.{size_of_term, size_of_action, size_of, factors_of_term, factors_of, has_extent}
 use Rattle.rank_one.specs.Typed.{is_typed_factor, extent_at, is_typed_action, IsTyped}
 use Rattle.rank_one.proofs.Acts.{action_size}
 use Rattle.rank_one.proofs.Choices.{yes, no, by_test}
-use Rattle.rank_one.proofs.Printed.{term_size, sum_size}
+use Rattle.rank_one.proofs.Printed.{term_size}
 use Rattle.rank_one.proofs.Stated.{stated, declaration_few}
 use Rattle.rank_one.proofs.SymbolLaws.{extent_there, no_extent}
-
-both : (a b : Bool) → (a && b) ≡ true → (a ≡ true) × (b ≡ true)
-both true true h = (refl, refl)
-both true false h = cc
-both false b h = cc
 
 all_and : {A : Type 0} (test : A → Bool) (x : A) (xs : List A) → test x ≡ true → list_all test xs ≡ true → list_all test (x ∷ xs)
     ≡ true
@@ -58,7 +52,7 @@ all_append : {A : Type 0} (test : A → Bool) (xs ys : List A) → list_all test
     list_all test (xs ++ ys) ≡ true
 all_append test [] ys h k = k
 all_append test (x ∷ xs) ys h k =
-    let two = both (test x) (list_all test xs) h in all_and test x (xs ++ ys) two.0 (all_append test xs ys two.1 k)
+    let two = and_parts (test x) (list_all test xs) h in all_and test x (xs ++ ys) two.0 (all_append test xs ys two.1 k)
 
 -- ---- sizes
 
@@ -139,14 +133,6 @@ no_larger s =
 
 -- ---- types
 
-all_front : {A : Type 0} (test : A → Bool) (xs ys : List A) → list_all test (xs ++ ys) ≡ true → (list_all test xs ≡ true)
-    × (list_all test ys ≡ true)
-all_front test [] ys h = (refl, h)
-all_front test (x ∷ xs) ys h =
-    let parts = both (test x) (list_all test (xs ++ ys)) h in
-    let more = all_front test xs ys parts.1 in
-    (ap (λ b. b && list_all test xs) parts.0 ∙ more.0, more.1)
-
 -- the declared extent of a name is this one
 abbrev is_extent : ℕ → Option ℕ → Bool
 is_extent e None = false
@@ -165,7 +151,7 @@ module _ (symbols : List Symbol) (e : ℕ) where
       → list_all fits names ≡ true
   names_fit [] declared equal = refl
   names_fit (name ∷ names) declared equal =
-      let parts = both (is_some (place_of symbols name)) (list_all (λ n. is_some (place_of symbols n)) names) declared in
+      let parts = and_parts (is_some (place_of symbols name)) (list_all (λ n. is_some (place_of symbols n)) names) declared in
       by (place_of symbols name) (extent_of symbols name) parts.0 (λ k h. (extent_there symbols name k none h).1)
       (λ o. no_extent symbols name o) refl refl equal (λ g. names_fit names parts.1 g)
     where
@@ -184,7 +170,7 @@ module _ (symbols : List Symbol) (e : ℕ) where
       by (Some k) (Some y) some there lost p x equal more =
           let all : list_all (λ z. z == e) (y ∷ filter_map (extent_of symbols) names) ≡ true =
           sym (ap (λ (o : Option ℕ). list_all (λ z. z == e) (cons_option o (filter_map (extent_of symbols) names))) x) ∙ equal in
-          let parts = both (y == e) (list_all (λ z. z == e) (filter_map (extent_of symbols) names)) all in
+          let parts = and_parts (y == e) (list_all (λ z. z == e) (filter_map (extent_of symbols) names)) all in
           all_and fits name names (ap (is_extent e) x ∙ parts.0) (more parts.1)
 
   -- the array of a name that fits is there
@@ -211,22 +197,22 @@ module _ (symbols : List Symbol) (e : ℕ) where
   factor_typed : (f : NamedFactor) → fits_factor f ≡ true → list_all fits (names_in_factor f) ≡ true →
       is_typed_factor arrays e (placed_factor symbols f) ≡ true
   factor_typed (factor.Number n) small ok = small
-  factor_typed (factor.Name name) small ok = place_fits name (both (fits name) true ok).0
+  factor_typed (factor.Name name) small ok = place_fits name (and_parts (fits name) true ok).0
 
   factors_typed : (fs : List NamedFactor) → list_all fits_factor fs ≡ true → list_all fits (flat_map names_in_factor fs) ≡ true
       → list_all (is_typed_factor arrays e) (map (placed_factor symbols) fs) ≡ true
   factors_typed [] small ok = refl
   factors_typed (f ∷ fs) small ok =
-      let numbers = both (fits_factor f) (list_all fits_factor fs) small in
-      let names = all_front fits (names_in_factor f) (flat_map names_in_factor fs) ok in
+      let numbers = and_parts (fits_factor f) (list_all fits_factor fs) small in
+      let names = list_all_parts fits (names_in_factor f) (flat_map names_in_factor fs) ok in
       all_and (is_typed_factor arrays e) (placed_factor symbols f) (map (placed_factor symbols) fs)
       (factor_typed f numbers.0 names.0) (factors_typed fs numbers.1 names.1)
 
   term_typed : (t : NamedTerm) → fits_term t ≡ true → list_all fits (names_in_term t) ≡ true →
       list_all (is_typed_factor arrays e) (factors_of_term (placed_term symbols t)) ≡ true
   term_typed t small ok =
-      let numbers = both (fits_factor t.first) (list_all fits_factor t.rest) small in
-      let names = all_front fits (names_in_factor t.first) (flat_map names_in_factor t.rest) ok in
+      let numbers = and_parts (fits_factor t.first) (list_all fits_factor t.rest) small in
+      let names = list_all_parts fits (names_in_factor t.first) (flat_map names_in_factor t.rest) ok in
       all_and (is_typed_factor arrays e) (placed_factor symbols t.first) (map (placed_factor symbols) t.rest)
       (factor_typed t.first numbers.0 names.0) (factors_typed t.rest numbers.1 names.1)
 
@@ -236,16 +222,16 @@ module _ (symbols : List Symbol) (e : ℕ) where
       ≡ true
   addends_typed [] small ok = refl
   addends_typed (a ∷ more) small ok =
-      let numbers = both (fits_term a.term) (list_all (λ (b : NamedAddend). fits_term b.term) more) small in
-      let names = all_front fits (names_in_term a.term) (flat_map (λ (b : NamedAddend). names_in_term b.term) more) ok in
+      let numbers = and_parts (fits_term a.term) (list_all (λ (b : NamedAddend). fits_term b.term) more) small in
+      let names = list_all_parts fits (names_in_term a.term) (flat_map (λ (b : NamedAddend). names_in_term b.term) more) ok in
       all_append (is_typed_factor arrays e) (factors_of_term (placed_term symbols a.term)) _ (term_typed a.term numbers.0 names.0)
       (addends_typed more numbers.1 names.1)
 
   sum_typed : (s : NamedSum) → fits_sum s ≡ true → list_all fits (names_in_sum s) ≡ true →
       list_all (is_typed_factor arrays e) (factors_of (placed_sum symbols s)) ≡ true
   sum_typed s small ok =
-      let numbers = both (fits_term s.first) (list_all (λ (a : NamedAddend). fits_term a.term) s.rest) small in
-      let names = all_front fits (names_in_term s.first) (flat_map (λ (a : NamedAddend). names_in_term a.term) s.rest) ok in
+      let numbers = and_parts (fits_term s.first) (list_all (λ (a : NamedAddend). fits_term a.term) s.rest) small in
+      let names = list_all_parts fits (names_in_term s.first) (flat_map (λ (a : NamedAddend). names_in_term a.term) s.rest) ok in
       all_append (is_typed_factor arrays e) (factors_of_term (placed_term symbols s.first)) _ (term_typed s.first numbers.0 names.0)
       (addends_typed s.rest numbers.1 names.1)
 
@@ -286,7 +272,7 @@ module _ (symbols : List Symbol) where
       list_all (λ place. nat_lt place (length all_arrays)) (map (placed_name symbols) names) ≡ true
   print_typed [] h = refl
   print_typed (name ∷ names) h =
-      let parts = both (is_some (place_of symbols name)) (list_all (λ n. is_some (place_of symbols n)) names) h in
+      let parts = and_parts (is_some (place_of symbols name)) (list_all (λ n. is_some (place_of symbols n)) names) h in
       let count = length-map symbols (λ (x : Symbol). x.array) in
       let below : placed_name symbols name < length all_arrays =
       subst (λ m. placed_name symbols name < m) (sym count) (placed name parts.0).here in
@@ -296,7 +282,7 @@ module _ (symbols : List Symbol) where
   action_typed : (a : NamedAction) → fits_action a ≡ true → is_declared symbols a ≡ true → is_conforming symbols a ≡ true →
       is_typed_action all_arrays (placed_action symbols a) ≡ true
   action_typed (action.Assign target value) small declared conforming =
-      let names = both (is_some (place_of symbols target)) (list_all (λ n. is_some (place_of symbols n)) (names_in_sum value))
+      let names = and_parts (is_some (place_of symbols target)) (list_all (λ n. is_some (place_of symbols n)) (names_in_sum value))
       declared in
       let there = placed target names.0 in
       let e = extent_at all_arrays (placed_name symbols target) in

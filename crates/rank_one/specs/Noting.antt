@@ -1,10 +1,10 @@
 -- The rules that a source breaks, noted one statement after another, and the arrays and statements that it has.
-use Rattle.std.specs.Prelude.{ℕ, Bool, true, false, not, ◌||◌, nat_lt, List, [], ◌∷◌, ◌++◌, map, fold, if◌then◌else◌, Option, Some}
+use Rattle.std.specs.Prelude.{ℕ, Bool, not, ◌||◌, nat_lt, List, [], ◌∷◌, ◌++◌, map, fold, Option, Some}
 use Rattle.std.specs.Prelude.{None, is_some}
 use Rattle.std.specs.List.{flat_map}
 use Rattle.a95_base.specs.declared.source.Line.{Line}
 use Rattle.a95_base.specs.declared.breaks.Break.{Break}
-use Rattle.a95_base.specs.Breaks.{broken_at}
+use Rattle.a95_base.specs.Breaks.{broken_at, noted}
 use Rattle.a95_base.specs.Limits.{most_elements}
 use Rattle.a95_base.specs.Rules.{not_yet, undeclared}
 use Rattle.f95_tree.specs.Forms.{Word}
@@ -19,10 +19,6 @@ use Rattle.rank_one.specs.declared.symbols.Symbol.{Symbol}
 use Rattle.rank_one.specs.Conditions.{place_of, is_conforming, is_declared}
 use Rattle.rank_one.specs.Forms.{arrays_in, named_in, statement_line}
 use Rattle.rank_one.specs.Reading.{symbol_on, with_symbol, symbols_in, symbols_of}
-
-abbrev pub noted : Bool → Break → List Break
-noted true b = b ∷ []
-noted false b = []
 
 abbrev pub not_yet_at : ℕ → Break
 not_yet_at line = broken_at line not_yet

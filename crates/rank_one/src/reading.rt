@@ -2,12 +2,12 @@
 //! statement after another (`specs/Noting.antt`), and the first of it is told.
 ghost use Rattle.std.specs.Prelude.{◌≡◌, ◌++◌, ◌<◌, ◌^◌, ◌≤◌, [], map, fold, nat_lt, is_some, Some, IfOk, IfErr, OnOk};
 ghost use Rattle.std.specs.List.{flat_map};
-ghost use Rattle.a95_base.specs.Breaks.{broken_at, first_of};
+ghost use Rattle.a95_base.specs.Breaks.{broken_at, first_of, noted};
 ghost use Rattle.a95_base.specs.Limits.{most_elements};
 ghost use Rattle.a95_base.specs.Lists.{Every};
 ghost use Rattle.rank_one.specs.Conditions.{place_of};
 ghost use Rattle.rank_one.specs.Forms.{arrays_in, named_in, statement_line};
-ghost use Rattle.rank_one.specs.Noting.{noted, not_yet_at, is_refused, symbols_breaks, arrays_breaks, declarations_breaks};
+ghost use Rattle.rank_one.specs.Noting.{not_yet_at, is_refused, symbols_breaks, arrays_breaks, declarations_breaks};
 ghost use Rattle.rank_one.specs.Noting.{statement_breaks, implicit_breaks, procedures_breaks, module_break, use_break};
 ghost use Rattle.rank_one.specs.Noting.{around_breaks, not_yet_breaks, names_breaks, action_breaks, name_breaks, undeclared_breaks};
 ghost use Rattle.rank_one.specs.Reading.{symbol_on, with_symbol, symbols_in, declared_in, symbols_of, statement_in, acted, unit_of};

@@ -6,7 +6,7 @@ use Rattle.std.proofs.Math.Nat.{mul_assoc, mul_comm, add_comm}
 use Rattle.std.proofs.lemmas.List.{get_or-set_same, length-set, take_all, map-append, append-nil, length-map}
 use Rattle.std.proofs.lemmas.List.Concat.{flat_map-append}
 use Rattle.a95_base.specs.Lists.{Every, Member, count_to}
-use Rattle.a95_base.proofs.Lists.{Every-weaker, Every-both, Every-all, map_agree, flat_map_agree}
+use Rattle.a95_base.proofs.Lists.{Every-weaker, Every-both, Every-all, map_agree, flat_map_agree, map-flat_map}
 use Rattle.rank_shape.specs.Shape.{IsPlace, size_of, number_of, place_at, places_of}
 use Rattle.rank_shape.specs.Order.{Level, IsOrder, loops_of, element_order_of}
 use Rattle.rank_shape.specs.Walk.{tour_from, tour}
@@ -61,10 +61,6 @@ map_twice : {A B C : Type 0} (f : A → B) (g : B → C) (xs : List A) → map g
 map_twice f g [] = refl
 map_twice f g (x ∷ xs) = ap (λ ys. g (f x) ∷ ys) (map_twice f g xs)
 
-map_pieces : {A B C : Type 0} (f : A → List B) (g : B → C) (xs : List A) → map g (flat_map f xs) ≡ flat_map (λ x. map g (f x)) xs
-map_pieces f g [] = refl
-map_pieces f g (x ∷ xs) = map-append g (f x) (flat_map f xs) ∙ ap (λ ys. map g (f x) ++ ys) (map_pieces f g xs)
-
 element_loops_below : (m n : ℕ) → m ≤ n → Every (λ level. level.number - 1 ≢ n) (element_order_of m)
 element_loops_below zero n below = tt
 element_loops_below (suc m) n below = (omega arith, element_loops_below m n (omega arith))
@@ -101,7 +97,7 @@ element_numbers (suc n) extents place below long =
     let dim : suc n - 1 ≡ n = omega arith in
     ap (λ k. map (λ p. number_of (take (suc n) extents) (take (suc n) p))
     (flat_map (λ i. tour_from (element_order_of n) extents (set place k i)) (count_to (get_or extents k 0)))) dim
-    ∙ map_pieces (λ i. tour_from (element_order_of n) extents (set place n i))
+    ∙ map-flat_map (λ i. tour_from (element_order_of n) extents (set place n i))
     (λ p. number_of (take (suc n) extents) (take (suc n) p)) (count_to (get_or extents n 0))
     ∙ flat_map_agree
     (λ i. map (λ p. number_of (take (suc n) extents) (take (suc n) p)) (tour_from (element_order_of n) extents (set place n i)))

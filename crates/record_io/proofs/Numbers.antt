@@ -1,10 +1,9 @@
 -- Numbers that digits write, up to the largest that is told.
-use Rattle.std.proofs.Common.{◌≡◌, ℕ, ◌+◌, ◌-◌, ◌*◌, ◌^◌, ◌<◌, min, Bool, List, [], ◌∷◌, length, refl, arith}
+use Rattle.std.proofs.Common.{◌≡◌, ℕ, ◌+◌, ◌-◌, ◌*◌, ◌^◌, min, Bool, List, length, arith}
 use Rattle.std.specs.Prelude.{fold, Some, None, position}
-use Rattle.std.specs.List.{list_all, position_or_len}
+use Rattle.std.specs.List.{position_or_len}
 use Rattle.std.proofs.lemmas.List.Folds.{fold_along}
 use Rattle.std.proofs.lemmas.Bool.Decides.{nat_tests}
-use Rattle.a95_base.specs.Input.{is_digit, is_number}
 
 -- one digit more
 abbrev pub with_digit : ℕ → ℕ → ℕ
@@ -20,11 +19,6 @@ alike_step n m c h = omega arith
 pub alike_on : (n m : ℕ) (digits : List ℕ) → min n (2 ^ 32) ≡ min m (2 ^ 32)
     → min (fold with_digit n digits) (2 ^ 32) ≡ min (fold with_digit m digits) (2 ^ 32)
 alike_on n m digits h = fold_along with_digit with_digit Alike alike_step n m digits h
-
--- what is a number where there is a byte
-pub is_number-some : (digits : List ℕ) → 0 < length digits → is_number digits ≡ list_all is_digit digits
-is_number-some [] h = absurd (omega arith)
-is_number-some (c ∷ cs) h = refl
 
 -- the place of the first that passes
 pub position_found : (p : ℕ → Bool) (xs : List ℕ) (n : ℕ) → Some n ≡ position p xs

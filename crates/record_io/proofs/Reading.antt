@@ -1,5 +1,5 @@
 -- The input rule finds what the grammar says.
-use Rattle.std.proofs.Common.{◌≡◌, ◌⊎◌, inl, inr, ℕ, ℤ, pos, neg_ℤ, ◌+◌, ◌-◌, ◌^◌, ◌<◌, ◌≤◌, Bool, true, false, not, ◌&&◌, ◌||◌}
+use Rattle.std.proofs.Common.{◌≡◌, ◌⊎◌, inl, inr, ℕ, ℤ, pos, neg_ℤ, ◌+◌, ◌-◌, ◌^◌, ◌<◌, ◌≤◌, Bool, true, false, not, ◌&&◌}
 use Rattle.std.proofs.Common.{List, [], ◌∷◌, ◌++◌, length, refl, sym, ap, ◌∙◌, subst, arith, append_assoc, append-nil}
 use Rattle.std.proofs.Common.{length-append}
 use Rattle.std.specs.Prelude.{if◌then◌else◌, ◌==◌, nat_le, nat_lt, Option, Some, None}
@@ -8,25 +8,15 @@ use Rattle.std.proofs.lemmas.Bool.Decides.{nat_tests}
 use Rattle.a95_base.specs.Input.{Integer, NoMore, NoInteger, is_whitespace, is_separator, is_digit, past_whitespace, past_comma}
 use Rattle.a95_base.specs.Input.{past_gap, word_of, is_number, number_of, negative_of, positive_of, integer_of, reading_of}
 use Rattle.a95_base.specs.Input.{reading_at, next_value}
+use Rattle.std.proofs.lemmas.Bool.{and_parts, not-true, or_parts, true≢false, eqb-true}
 use Rattle.record_io.specs.Grammar.{IsGap, HasSign, Writes, EndsValue, IsNext}
-
-true_false : true ≡ false → ⊥
-true_false h = cc
-
-is_not : (b : Bool) → not b ≡ true → b ≡ false
-is_not true h = sym h
-is_not false h = refl
-
-both : (a b : Bool) → (a && b) ≡ true → (a ≡ true) × (b ≡ true)
-both true b h = (refl, h)
-both false b h = (h, cc)
 
 -- whitespace at the front is passed, and nothing else is
 blanks-append : (blanks text : List ℕ) → list_all is_whitespace blanks ≡ true
     → past_whitespace (blanks ++ text) ≡ past_whitespace text
 blanks-append [] text h = refl
 blanks-append (c ∷ cs) text h =
-    let parts = both (is_whitespace c) (list_all is_whitespace cs) h in
+    let parts = and_parts (is_whitespace c) (list_all is_whitespace cs) h in
     ap (λ b. if b then past_whitespace (cs ++ text) else (c ∷ (cs ++ text))) parts.0 ∙ blanks-append cs text parts.1
 
 blanks_stop : (c : ℕ) (cs : List ℕ) → is_whitespace c ≡ false → past_whitespace (c ∷ cs) ≡ c ∷ cs
@@ -54,17 +44,13 @@ abbrev Starts : List ℕ → Type 0
 Starts [] = Unit {0}
 Starts (c ∷ cs) = is_separator c ≡ false
 
-either : (a b : Bool) → (a || b) ≡ false → (a ≡ false) × (b ≡ false)
-either true b h = absurd (true_false h)
-either false b h = (refl, h)
-
 starts_blanks : (text : List ℕ) → Starts text → past_whitespace text ≡ text
 starts_blanks [] h = refl
-starts_blanks (c ∷ cs) h = blanks_stop c cs (either (is_whitespace c) (c == 44) h).0
+starts_blanks (c ∷ cs) h = blanks_stop c cs (or_parts (is_whitespace c) (c == 44) h).0
 
 starts_comma : (text : List ℕ) → Starts text → past_comma text ≡ text
 starts_comma [] h = refl
-starts_comma (c ∷ cs) h = ap (λ b. if b then cs else (c ∷ cs)) (either (is_whitespace c) (c == 44) h).1
+starts_comma (c ∷ cs) h = ap (λ b. if b then cs else (c ∷ cs)) (or_parts (is_whitespace c) (c == 44) h).1
 
 -- a gap in front of a text that begins none is passed, and that alone
 pub gap-append : (comma : Bool) (gap text : List ℕ) → IsGap comma gap → Starts text → past_gap comma (gap ++ text) ≡ text
@@ -72,7 +58,7 @@ gap-append false gap text (inl blanks) s = blanks-append gap text blanks ∙ sta
 gap-append true gap text (inl blanks) s =
     ap (λ l. past_whitespace (past_comma l)) (blanks-append gap text blanks ∙ starts_blanks text s)
     ∙ ap past_whitespace (starts_comma text s) ∙ starts_blanks text s
-gap-append false gap text (inr g) s = absurd (true_false (sym g.0))
+gap-append false gap text (inr g) s = absurd (true≢false (sym g.0))
 gap-append true gap text (inr g) s =
     let around = g.1 in
     let before = around.0 in
@@ -162,8 +148,8 @@ word_end (c ∷ cs) e = ap (λ b. if b then [] else (c ∷ word_of cs)) e
 word-append : (word more : List ℕ) → list_all plain word ≡ true → EndsValue more → word_of (word ++ more) ≡ word
 word-append [] more h e = word_end more e
 word-append (c ∷ cs) more h e =
-    let parts = both (plain c) (list_all plain cs) h in
-    ap (λ b. if b then [] else (c ∷ word_of (cs ++ more))) (is_not (is_separator c) parts.0)
+    let parts = and_parts (plain c) (list_all plain cs) h in
+    ap (λ b. if b then [] else (c ∷ word_of (cs ++ more))) (not-true (is_separator c) parts.0)
     ∙ ap (λ l. c ∷ l) (word-append cs more parts.1 e)
 
 -- digits and signs end no value
@@ -173,11 +159,11 @@ digit_plain c h = grind (arith, nat_tests)
 digits_plain : (digits : List ℕ) → list_all is_digit digits ≡ true → list_all plain digits ≡ true
 digits_plain [] h = refl
 digits_plain (c ∷ cs) h =
-    let parts = both (is_digit c) (list_all is_digit cs) h in
+    let parts = and_parts (is_digit c) (list_all is_digit cs) h in
     ap (λ b. b && list_all plain cs) (digit_plain c parts.0) ∙ digits_plain cs parts.1
 
 number_plain : (digits : List ℕ) → is_number digits ≡ true → list_all plain digits ≡ true
-number_plain [] h = absurd (true_false (sym h))
+number_plain [] h = absurd (true≢false (sym h))
 number_plain (c ∷ cs) h = digits_plain (c ∷ cs) h
 
 -- a number behind a sign or none is the INTEGER that the input rule reads
@@ -196,9 +182,9 @@ negative_is digits h le =
     ap (λ b. if b && nat_le (number_of digits) (2 ^ 31) then value else None) h ∙ ap (λ b. if b then value else None) fits
 
 unsigned_is : (digits : List ℕ) → is_number digits ≡ true → integer_of digits ≡ positive_of digits
-unsigned_is [] h = absurd (true_false (sym h))
+unsigned_is [] h = absurd (true≢false (sym h))
 unsigned_is (c ∷ cs) h =
-    let digit = (both (is_digit c) (list_all is_digit cs) h).0 in
+    let digit = (and_parts (is_digit c) (list_all is_digit cs) h).0 in
     let no_minus : (c == 45) ≡ false = grind (arith, nat_tests) in
     let no_plus : (c == 43) ≡ false = grind (arith, nat_tests) in
     ap (λ b. if b then negative_of cs else (if c == 43 then positive_of cs else positive_of (c ∷ cs))) no_minus
@@ -224,12 +210,12 @@ signed_plain sign digits value h (inl (inr plus, lt, v)) = ap (λ s. list_all pl
 signed_plain sign digits value h (inr p) = ap (λ s. list_all plain (s ++ digits)) p.0 ∙ number_plain digits h
 
 some_digit : (digits : List ℕ) → is_number digits ≡ true → 0 < length digits
-some_digit [] h = absurd (true_false (sym h))
+some_digit [] h = absurd (true≢false (sym h))
 some_digit (c ∷ cs) h = omega arith
 
 starts_word : (word more : List ℕ) → list_all plain word ≡ true → 0 < length word → Starts (word ++ more)
 starts_word [] more h some = absurd (omega arith)
-starts_word (c ∷ cs) more h some = is_not (is_separator c) (both (plain c) (list_all plain cs) h).0
+starts_word (c ∷ cs) more h some = not-true (is_separator c) (and_parts (plain c) (list_all plain cs) h).0
 
 reading_some : (before : ℕ) (text : List ℕ) → 0 < length text
     → reading_at before text ≡ reading_of (integer_of (word_of text)) (before + length (word_of text))
@@ -269,7 +255,7 @@ positive_reads : (digits : List ℕ) (z : ℤ) → positive_of digits ≡ Some z
     × (z ≡ pos (number_of digits))
 positive_reads digits z e =
     let test = chosen (is_number digits && nat_lt (number_of digits) (2 ^ 31)) (pos (number_of digits)) z e in
-    let parts = both (is_number digits) (nat_lt (number_of digits) (2 ^ 31)) test.0 in
+    let parts = and_parts (is_number digits) (nat_lt (number_of digits) (2 ^ 31)) test.0 in
     let fits = parts.1 in
     (parts.0, grind (arith, nat_tests), test.1)
 
@@ -277,24 +263,21 @@ negative_reads : (digits : List ℕ) (z : ℤ) → negative_of digits ≡ Some z
     × (z ≡ neg_ℤ (pos (number_of digits)))
 negative_reads digits z e =
     let test = chosen (is_number digits && nat_le (number_of digits) (2 ^ 31)) (neg_ℤ (pos (number_of digits))) z e in
-    let parts = both (is_number digits) (nat_le (number_of digits) (2 ^ 31)) test.0 in
+    let parts = and_parts (is_number digits) (nat_le (number_of digits) (2 ^ 31)) test.0 in
     let fits = parts.1 in
     (parts.0, grind (arith, nat_tests), test.1)
-
-same_code : (c n : ℕ) → (c == n) ≡ true → c ≡ n
-same_code c n h = grind (arith, nat_tests)
 
 reads_at : (c : ℕ) (cs : List ℕ) (z : ℤ) (minus : Bool) → (c == 45) ≡ minus → (plus : Bool) → (c == 43) ≡ plus
     → (if minus then negative_of cs else (if plus then positive_of cs else positive_of (c ∷ cs))) ≡ Some z → Writes (c ∷ cs) z
 reads_at c cs z true m plus p e =
     let r = negative_reads cs z e in
-    record { sign = 45 ∷ []; digits = cs; text = ap (λ d. d ∷ cs) (same_code c 45 m); number = r.0; signed = inr (refl, r.1, r.2) }
+    record { sign = 45 ∷ []; digits = cs; text = ap (λ d. d ∷ cs) (eqb-true c 45 m); number = r.0; signed = inr (refl, r.1, r.2) }
 reads_at c cs z false m true p e =
     let r = positive_reads cs z e in
     record {
       sign = 43 ∷ [];
       digits = cs;
-      text = ap (λ d. d ∷ cs) (same_code c 43 p);
+      text = ap (λ d. d ∷ cs) (eqb-true c 43 p);
       number = r.0;
       signed = inl (inr refl, r.1, r.2);
     }

@@ -1,12 +1,13 @@
 -- What is brought again, by the names and the modules that were seen.
 use Rattle.std.proofs.Common.{◌≡◌, ℕ, Bool, true, false, not, ◌&&◌, ◌||◌, ◌==◌, List, [], ◌∷◌, ◌++◌, map, refl, sym, ap, ◌∙◌}
-use Rattle.std.proofs.Common.{append_assoc, arith}
+use Rattle.std.proofs.Common.{append_assoc}
 use Rattle.std.specs.Prelude.{nat_eq, if◌then◌else◌}
 use Rattle.std.specs.List.{list_any}
 use Rattle.std.specs.Cmp.Lexicographic.{pointwise}
 use Rattle.std.proofs.lemmas.List.{map-append}
-use Rattle.std.proofs.lemmas.Bool.Decides.{nat_tests}
 use Rattle.std.specs.declared.vec.Vec.{Vec}
+use Rattle.std.proofs.lemmas.Bool.{not-true, not-false}
+use Rattle.a95_base.proofs.Tests.{equals_turned}
 use Rattle.names_types.specs.Scopes.{Entry, is_again, brought_once}
 use Rattle.scope_entries.specs.View.{brought_entry, all_brought}
 use Rattle.scope_entries.specs.declared.brought.Brought.{Brought}
@@ -23,15 +24,12 @@ seen_as k = (k.0.items, k.1)
 abbrev same_key : Key → Key → Bool
 same_key a b = pointwise nat_eq a.0 b.0 && (a.1 == b.1)
 
-places_same : (m n : ℕ) → (m == n) ≡ (n == m)
-places_same m n = grind (arith, nat_tests)
-
 again_is : (b : Brought) (kept : List Brought)
     → is_again (all_brought kept) (brought_entry b) ≡ list_any (same_key (key_of b)) (map key_of kept)
 again_is b [] = refl
 again_is b (d ∷ more) =
     ap (λ e. (pointwise nat_eq b.share.now.name d.share.now.name && e) || is_again (all_brought more) (brought_entry b))
-    (places_same d.share.now.place b.share.now.place)
+    (equals_turned d.share.now.place b.share.now.place)
     ∙ ap (λ rest. same_key (key_of b) (key_of d) || rest) (again_is b more)
 
 module _ {Z : Type 0} where
@@ -76,14 +74,6 @@ module _ (kept : List Brought) (b : Brought) (rest : List Brought) (whole : List
       ∙ (ap (λ t. all_brought kept ++ (if t then brought_once (all_brought kept) (all_brought rest)
       else brought_entry b ∷ brought_once (all_brought kept ++ brought_entry b ∷ []) (all_brought rest))) (sym new) ∙ e))
 
-not_true : (b : Bool) → not b ≡ true → b ≡ false
-not_true true e = cc
-not_true false e = refl
-
-not_false : (b : Bool) → not b ≡ false → b ≡ true
-not_false true e = refl
-not_false false e = cc
-
 -- ---- one step: what is kept, and the keys that were seen
 
 pub record Kept {Z : Type 0} (keys : List (Vec ℕ Z × ℕ)) (kept rest : List Brought) (whole : List Entry) : Type 0 where
@@ -98,7 +88,7 @@ module _ {Z : Type 0} (k : Vec ℕ Z × ℕ) (keys made : List (Vec ℕ Z × ℕ
 
   pub kept_new : not stands ≡ true → made ≡ (if stands then keys else keys ++ k ∷ []) → Kept made (kept ++ b ∷ []) rest whole
   kept_new new e =
-      let absent : stands ≡ false = not_true stands new in
+      let absent : stands ≡ false = not-true stands new in
       let fresh : is_again (all_brought kept) (brought_entry b) ≡ false = sym (seen_is_again k keys b kept before.seen is)
       ∙ absent in
       let more : made ≡ keys ++ k ∷ [] = e ∙ ap (λ t. if t then keys else keys ++ k ∷ []) absent in
@@ -109,7 +99,7 @@ module _ {Z : Type 0} (k : Vec ℕ Z × ℕ) (keys made : List (Vec ℕ Z × ℕ
 
   pub kept_again : not stands ≡ false → made ≡ (if stands then keys else keys ++ k ∷ []) → Kept made kept rest whole
   kept_again old e =
-      let present : stands ≡ true = not_false stands old in
+      let present : stands ≡ true = not-false stands old in
       let again : is_again (all_brought kept) (brought_entry b) ≡ true = sym (seen_is_again k keys b kept before.seen is)
       ∙ present in
       let none : made ≡ keys = e ∙ ap (λ t. if t then keys else keys ++ k ∷ []) present in

@@ -1,9 +1,11 @@
 -- Meanings by the places of their names, and one after the other.
 use Rattle.std.proofs.Common.{◌≡◌, ℕ, zero, suc, ◌+◌, ◌-◌, ◌≤◌, Bool, true, false, cond, List, [], ◌∷◌, ◌++◌, map, drop, length}
-use Rattle.std.proofs.Common.{Option, Some, None, refl, sym, ap, ◌∙◌, arith}
+use Rattle.std.proofs.Common.{Some, None, refl, sym, ap, ◌∙◌, arith}
 use Rattle.std.specs.Prelude.{nat_eq, slice_get, option_map}
 use Rattle.std.specs.List.{position_from, find}
 use Rattle.std.specs.Cmp.Lexicographic.{pointwise}
+use Rattle.std.proofs.lemmas.Option.{same_Some, none-some}
+use Rattle.a95_base.proofs.Tests.{next_place}
 use Rattle.f95_tree.specs.Forms.{Word}
 use Rattle.names_types.specs.declared.meaning.Meaning.{Meaning}
 use Rattle.names_types.specs.Scopes.{Meant, meant, meaning_in, Entry, Sited, sited_from, entry_meaning}
@@ -11,28 +13,19 @@ use Rattle.intrinsic_table.specs.Finding.{is_word}
 use Rattle.name_table.specs.Places.{first_place}
 use Rattle.scope_names.specs.Tables.{meant_by}
 
-some_same : {A : Type 0} (x y : A) → Some x ≡ Some y → x ≡ y
-some_same x y e = cc
-
-none_some : {A : Type 0} (x : A) → None ≡ Some x → ⊥
-none_some x e = cc
-
 behind : {A : Type 0} (test : A → Bool) (i p : ℕ) (xs : List A) → position_from test i xs ≡ Some p → i ≤ p
-behind test i p [] e = absurd (none_some p e)
+behind test i p [] e = absurd (none-some p e)
 behind test i p (x ∷ xs) e = by (test x) e (behind test (i + 1) p xs)
   where
     by : (b : Bool) → cond b (Some i) (position_from test (i + 1) xs) ≡ Some p →
         (position_from test (i + 1) xs ≡ Some p → i + 1 ≤ p) → i ≤ p
-    by true e next = let same : i ≡ p = some_same i p e in omega (arith, same)
+    by true e next = let same : i ≡ p = same_Some i p e in omega (arith, same)
     by false e next = omega (arith, next e)
-
-step : (i p : ℕ) → i + 1 ≤ p → p - i ≡ suc (p - (i + 1))
-step i p h = omega (arith, h)
 
 module _ (name : Word) where
   found_from : (ns : List Word) (ms : List Meaning) (i p : ℕ) → position_from (pointwise nat_eq name) i ns ≡ Some p
       → slice_get ms (p - i) ≡ meaning_in (meant_by ns ms) name
-  found_from [] ms i p e = absurd (none_some p e)
+  found_from [] ms i p e = absurd (none-some p e)
   found_from (n ∷ ns) [] i p e = refl
   found_from (n ∷ ns) (m ∷ ms) i p e = by (pointwise nat_eq name n) e (behind (pointwise nat_eq name) (i + 1) p ns)
       (found_from ns ms (i + 1) p)
@@ -44,10 +37,10 @@ module _ (name : Word) where
           → slice_get (m ∷ ms) (p - i) ≡ option_map (λ (x : Meant). x.meaning)
           (cond b (Some (meant n m)) (find (λ (x : Meant). is_word name x.name) (meant_by ns ms)))
       by true e far next =
-          let same : i ≡ p = some_same i p e in
+          let same : i ≡ p = same_Some i p e in
           let here : p - i ≡ 0 = omega (arith, same) in
           ap (λ k. slice_get (m ∷ ms) k) here
-      by false e far next = ap (λ k. slice_get (m ∷ ms) k) (step i p (far e)) ∙ next e
+      by false e far next = ap (λ k. slice_get (m ∷ ms) k) (next_place i p (far e)) ∙ next e
 
   nowhere_from : (ns : List Word) (ms : List Meaning) (i : ℕ) → position_from (pointwise nat_eq name) i ns ≡ None
       → None ≡ meaning_in (meant_by ns ms) name
@@ -59,7 +52,7 @@ module _ (name : Word) where
           → (position_from (pointwise nat_eq name) (i + 1) ns ≡ None → None ≡ meaning_in (meant_by ns ms) name)
           → None ≡ option_map (λ (x : Meant). x.meaning)
           (cond b (Some (meant n m)) (find (λ (x : Meant). is_word name x.name) (meant_by ns ms)))
-      by true e next = absurd (none_some i (sym e))
+      by true e next = absurd (none-some i (sym e))
       by false e next = next e
 
   -- a name that stands at a place means what the meaning at that place says

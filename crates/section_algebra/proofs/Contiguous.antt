@@ -5,9 +5,9 @@ use Rattle.std.specs.List.{flat_map}
 use Rattle.std.proofs.lemmas.Int.{ints}
 use Rattle.std.proofs.lemmas.Nat.{mul-le}
 use Rattle.std.proofs.lemmas.Bool.{cases_lt, eqb-true, eqb-false, false≢true}
-use Rattle.std.proofs.lemmas.List.{length-map, length-replicate, get_or-map, map-append, drop_more, drop_all}
+use Rattle.std.proofs.lemmas.List.{length-map, length-replicate, get_or-map, drop_more, drop_all}
 use Rattle.a95_base.specs.Lists.{Every, count_to}
-use Rattle.a95_base.proofs.Lists.{Every-map, Every-weaker, each_at, length-count_to, get_or-count_to}
+use Rattle.a95_base.proofs.Lists.{Every-map, Every-weaker, each_at, length-count_to, get_or-count_to, map-flat_map}
 use Rattle.rank_shape.specs.Shape.{size_of, number_of}
 use Rattle.section_algebra.specs.Section.{Progression, term_of, subscripts_of, counts_of, places_of, from_one, numbers_in, IsConsecutive}
 use Rattle.section_algebra.specs.Dimensions.{SubscriptsWithin, EachWithin, AllSome, GoesOn, RunsOn}
@@ -17,10 +17,6 @@ use Rattle.section_algebra.proofs.Bounds.{size_of_some}
 use Rattle.section_algebra.proofs.Consecutive.{row, rows, RowsJoin, rows_are, consecutive_at, consecutive_from, short_consecutive}
 
 -- ---- the numbers, dimension by dimension
-
-map_pieces : {A B C : Type 0} (f : A → List B) (g : B → C) (xs : List A) → map g (flat_map f xs) ≡ flat_map (λ x. map g (f x)) xs
-map_pieces f g [] = refl
-map_pieces f g (x ∷ xs) = map-append g (f x) (flat_map f xs) ∙ ap (λ ys. map g (f x) ++ ys) (map_pieces f g xs)
 
 numbered_row : (e : ℕ) (extents : List ℕ) (zs place : List ℤ)
     → map (λ q. number_of (e ∷ extents) (from_one q)) (map (λ z. z ∷ place) zs)
@@ -41,7 +37,7 @@ numbered_rows e extents zs (place ∷ places) =
 numbers_are_rows : (e : ℕ) (extents : List ℕ) (p : Progression) (section : List Progression)
     → numbers_in (e ∷ extents) (p ∷ section) ≡ rows e (from_one (subscripts_of p)) (numbers_in extents section)
 numbers_are_rows e extents p section =
-    map_pieces (λ place. map (λ z. z ∷ place) (subscripts_of p)) (λ q. number_of (e ∷ extents) (from_one q)) (places_of section)
+    map-flat_map (λ place. map (λ z. z ∷ place) (subscripts_of p)) (λ q. number_of (e ∷ extents) (from_one q)) (places_of section)
     ∙ numbered_rows e extents (subscripts_of p) (places_of section)
 
 length-numbers_in : (extents : List ℕ) (section : List Progression)

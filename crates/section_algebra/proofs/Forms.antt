@@ -1,6 +1,6 @@
 -- Laws of sums of atoms: their values and factors, sums that rise, and what a merge of two keeps.
 use Rattle.std.proofs.Common.{◌≡◌, ◌≢◌, ℕ, ℤ, pos, zero, suc, ◌+◌, ◌<◌, ◌≤◌, ◌+ℤ◌, ◌-ℤ◌, ◌*ℤ◌, Bool, true, false, nat_eq, List, [], ◌∷◌, ◌++◌, length, get_or, take, drop, refl, sym, ap, ◌∙◌, subst, inl, inr, arith, FitsSigned, w32, of_z, to_z}
-use Rattle.std.specs.Prelude.{negsuc, if◌then◌else◌}
+use Rattle.std.specs.Prelude.{if◌then◌else◌}
 use Rattle.std.proofs.lemmas.Int.{ints, to_z-of_z}
 use Rattle.std.proofs.lemmas.Bool.{cases_order, cases_eq, eq-eqb, ne_eqb}
 use Rattle.std.proofs.lemmas.List.{take_more, drop_more, drop_all}
@@ -9,19 +9,11 @@ use Rattle.a95_base.specs.Integer.{wrapped, difference_of}
 use Rattle.a95_base.specs.IntegerLaws.{IsInteger}
 use Rattle.a95_base.specs.Lists.{Every}
 use Rattle.a95_base.proofs.Lists.{Every-append, Every-weaker, Pairwise-append, each_at}
-use Rattle.a95_base.proofs.Integers.{mul_add, mul_sub, mul_assoc}
+use Rattle.a95_base.proofs.Integers.{mul_add, mul_sub, mul_assoc, fits_integer, integer_fits}
 use Rattle.a95_base.proofs.Wrapping.{wrapped_fits, fits_wrapped, wrapped-wrapped, wrapped-add, wrapped-multiply}
 use Rattle.section_algebra.specs.declared.atom.Atom.{Atom}
 use Rattle.section_algebra.specs.Form.{Term, Form, factor_of, factor_in, sum_in, IsBelow, IsSum, IsForm}
 use Rattle.section_algebra.specs.Merging.{Grows, IsLeast, Starts, IsLeastOf, Takes}
-
-pub integer_fits : (z : ℤ) → IsInteger z → FitsSigned w32 z
-integer_fits (pos n) h = omega (arith, ints, h.1)
-integer_fits (negsuc n) h = omega (arith, ints, h.0)
-
-pub fits_integer : (z : ℤ) → FitsSigned w32 z → IsInteger z
-fits_integer (pos n) h = (omega (arith, ints), omega (arith, ints, h))
-fits_integer (negsuc n) h = (omega (arith, ints, h), omega (arith, ints))
 
 pub wrapped_integer : (z : ℤ) → IsInteger z → wrapped z ≡ z
 wrapped_integer z h = wrapped_fits z (integer_fits z h)

@@ -1,32 +1,16 @@
 -- The places of a section: which they are, how many, in which order, and each once.
-use Rattle.std.proofs.Common.{◌≡◌, ◌≢◌, ℕ, ℤ, pos, ◌+◌, ◌*◌, ◌<◌, List, [], ◌∷◌, length, get_or, map, refl, sym, ap, ◌∙◌, subst, inl, inr, arith}
-use Rattle.std.specs.List.{flat_map}
+use Rattle.std.proofs.Common.{◌≡◌, ◌≢◌, ℕ, ℤ, pos, ◌+◌, ◌*◌, ◌<◌, List, [], ◌∷◌, length, get_or, map, refl, ap, ◌∙◌, subst, inl, inr, arith}
 use Rattle.std.proofs.Math.Nat.{mul_comm}
 use Rattle.std.proofs.lemmas.List.{length-map, get_or-map}
 use Rattle.a95_base.specs.Lists.{Every, Pairwise, Member, count_to}
-use Rattle.a95_base.proofs.Lists.{Every-all, Every-map, Pairwise-map, Pairwise-weaker, Pairwise-flat_map, Member-append_left, Member-append_right, Member-append_cases, Member-map, Member-from_map, length-count_to, get_or-count_to}
+use Rattle.a95_base.proofs.Lists.{Every-all, Every-map, Pairwise-map, Pairwise-weaker, Pairwise-flat_map, Member-map, Member-from_map, length-count_to, get_or-count_to}
+use Rattle.a95_base.proofs.Lists.{Member-flat_map, Member-from_flat_map}
 use Rattle.rank_shape.specs.Shape.{IsPlace, size_of, number_of}
 use Rattle.rank_shape.proofs.Numbers.{number_below}
 use Rattle.rank_shape.proofs.Walks.{length_pieces, get_or-pieces}
 use Rattle.section_algebra.specs.Section.{Progression, term_of, subscripts_of, counts_of, choices, places_of, place_named}
 
 -- ---- which places
-
-Member-flat_map : {A B : Type 0} (f : A → List B) (xs : List A) (x : A) (y : B) → Member xs x → Member (f x) y
-    → Member (flat_map f xs) y
-Member-flat_map f [] x y h k = absurd h
-Member-flat_map {A} f (w ∷ xs) x y (inl e) k =
-    let P : A → Type 0 = λ v. Member (f v) y in Member-append_left (f w) (flat_map f xs) y (subst P (sym e) k)
-Member-flat_map f (w ∷ xs) x y (inr h) k = Member-append_right (f w) (flat_map f xs) y (Member-flat_map f xs x y h k)
-
-Member-from_flat_map : {A B : Type 0} (f : A → List B) (xs : List A) (y : B) → Member (flat_map f xs) y
-    → (x : A) × (Member xs x × Member (f x) y)
-Member-from_flat_map f [] y h = absurd h
-Member-from_flat_map f (w ∷ xs) y h =
-    elim (Member-append_cases (f w) (flat_map f xs) y h) [
-      | inl k ↦ (w, (inl refl, k))
-      | inr k ↦ let r = Member-from_flat_map f xs y k in (r.0, (inr r.1.0, r.1.1))
-    ]
 
 -- each number of the place stands in the list of its dimension
 abbrev pub AreAmong : List (List ℤ) → List ℤ → Type 0

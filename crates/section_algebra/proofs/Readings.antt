@@ -1,12 +1,10 @@
 -- INTEGERs as 64-bit numbers: what the code reads of one is the number itself, and so are what it computes of them.
 use Rattle.std.proofs.Common.{◌≡◌, ◌≢◌, ℕ, ℤ, pos, zero, suc, ◌^◌, ◌<◌, ◌≤◌, ◌+ℤ◌, ◌-ℤ◌, ◌*ℤ◌, ◌≤ℤ◌, List, length, get_or, refl, sym, ap, ◌∙◌, subst, arith, FitsSigned, w64, of_z, to_z}
 use Rattle.std.specs.Prelude.{◌↔◌, negsuc, neg_ℤ, int_div, unsigned_abs, IsTrue}
-use Rattle.std.specs.Int.{int_max}
-use Rattle.std.proofs.Math.Nat.{div-le_self}
-use Rattle.std.proofs.lemmas.Int.{ints, clamps, to_z-of_z, fits_signed_from_abs}
+use Rattle.std.proofs.lemmas.Int.{ints, to_z-of_z, fits_signed_from_abs}
 use Rattle.a95_base.specs.IntegerLaws.{IsInteger}
 use Rattle.a95_base.proofs.Lists.{each_at}
-use Rattle.rank_shape.specs.Fields.{natural_is}
+use Rattle.a95_base.proofs.Quotients.{abs_div}
 use Rattle.section_algebra.specs.Section.{AreIntegers, triplet_count}
 use Rattle.section_algebra.specs.Dimensions.{InBounds}
 
@@ -57,12 +55,6 @@ bounds_read r l u y z f g h e k =
 
 -- ---- quotients
 
-quotient_small : (a d : ℤ) → unsigned_abs (int_div a d) ≤ unsigned_abs a
-quotient_small (pos a) (pos d) = div-le_self a d
-quotient_small (pos a) (negsuc d) = omega (arith, ints, div-le_self a (suc d))
-quotient_small (negsuc a) (pos d) = omega (arith, ints, div-le_self (suc a) d)
-quotient_small (negsuc a) (negsuc d) = omega (arith, ints, div-le_self (suc a) (suc d))
-
 -- ---- a triplet's count
 
 pub steps_read : (z : ℤ) → IsInteger z → z ≢ pos 0 → 0 < of_z w64 z
@@ -91,16 +83,13 @@ module _ (first last stride : ℤ) (f : IsInteger first) (l : IsInteger last) (s
   quotient_wide =
       fits_signed_from_abs w64 (int_div (last -ℤ first +ℤ stride) stride)
       (let most : unsigned_abs (last -ℤ first +ℤ stride) < 2 ^ 40 = omega (arith, ints, f.0, f.1, l.0, l.1, s.0, s.1) in
-      omega (arith, quotient_small (last -ℤ first +ℤ stride) stride, most))
+      omega (arith, abs_div (last -ℤ first +ℤ stride) stride, most))
 
   pub quotient_read : int_div (read (read (read last -ℤ read first) +ℤ read stride)) (read stride)
       ≡ int_div (last -ℤ first +ℤ stride) stride
   quotient_read =
       ap (λ x. int_div x (read stride)) dividend_read
       ∙ ap (λ x. int_div (last -ℤ first +ℤ stride) x) (read_back stride s)
-
-pub count_natural : (q : ℤ) → pos (unsigned_abs (int_max q (pos 0))) ≡ int_max q (pos 0)
-count_natural q = natural_is (int_max q (pos 0)) (omega (arith, ints, clamps))
 
 pub count_read : (first last stride : ℤ) → IsInteger first → IsInteger last → IsInteger stride
     → triplet_count (read first) (read last) (read stride) ≡ triplet_count first last stride

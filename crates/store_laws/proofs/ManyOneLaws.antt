@@ -4,12 +4,13 @@ use Rattle.std.proofs.Common.{◌∙◌, subst, inl, inr, append_assoc, arith}
 use Rattle.std.specs.List.{list_any}
 use Rattle.std.proofs.lemmas.List.{append-nil}
 use Rattle.std.proofs.lemmas.List.Folds.{list_any-append}
-use Rattle.std.proofs.lemmas.Bool.{cases_Bool, cases_eq, eq-eqb, ne_eqb, or_left, or_right}
+use Rattle.std.proofs.lemmas.Bool.{cases_Bool, or_left, or_right}
 use Rattle.a95_base.specs.Lists.{Every, Pairwise, Permuted}
 use Rattle.a95_base.specs.Lists.Permuted.{none, skip, swap, join}
 use Rattle.a95_base.proofs.Lists.{Every-weaker, Pairwise-weaker_on}
 use Rattle.a95_base.proofs.Permuted.{permuted_equal, Permuted-append_left, Permuted-append_right, Permuted-append_turned}
 use Rattle.a95_base.proofs.Permuted.{Permuted-Every, Permuted-Pairwise}
+use Rattle.a95_base.proofs.Tests.{or-false, equals_turned, or_swapped, or_crossed}
 use Rattle.rank_shape.specs.Shape.{IsPlace}
 use Rattle.rank_shape.specs.Order.{Level, IsOrder, element_order_of}
 use Rattle.rank_shape.specs.Walk.{tour}
@@ -28,36 +29,19 @@ use Rattle.store_laws.proofs.LegalLaws.{join_back, places_keep, legal_direct}
 
 -- ---- elements in another order
 
-or_swapped : (a b c : Bool) → (a || (b || c)) ≡ (b || (a || c))
-or_swapped true true c = refl
-or_swapped true false c = refl
-or_swapped false b c = refl
-
 any_permuted : {A : Type 0} (test : A → Bool) {xs ys : List A} → Permuted xs ys → list_any test xs ≡ list_any test ys
 any_permuted test none = refl
 any_permuted test (skip x p) = ap (λ b. test x || b) (any_permuted test p)
 any_permuted test (swap x y xs) = or_swapped (test x) (test y) (list_any test xs)
 any_permuted test (join p q) = any_permuted test p ∙ any_permuted test q
 
-equal_turned : (e d : ℕ) → (e == d) ≡ (d == e)
-equal_turned e d =
-    elim (cases_eq e d) [
-      | inl same ↦ eq-eqb e d same ∙ sym (eq-eqb d e (sym same))
-      | inr apart ↦ ne_eqb e d apart
-          ∙ sym (ne_eqb d e (λ same. apart (sym same)))
-    ]
-
-twice_swapped : (same any_x any_y rest : Bool) → ((same || any_x) || (any_y || rest)) ≡ ((same || any_y) || (any_x || rest))
-twice_swapped true any_x any_y rest = refl
-twice_swapped false any_x any_y rest = or_swapped any_x any_y rest
-
 twice_permuted : {xs ys : List ℕ} → Permuted xs ys → stands_twice xs ≡ stands_twice ys
 twice_permuted none = refl
 twice_permuted (skip x {xs = xs} {ys = ys} p) = ap (λ b. b || stands_twice xs) (any_permuted (λ other. x == other) p)
     ∙ ap (λ b. is_among x ys || b) (twice_permuted p)
 twice_permuted (swap x y zs) =
-    ap (λ b. (b || is_among x zs) || (is_among y zs || stands_twice zs)) (equal_turned x y)
-    ∙ twice_swapped (y == x) (is_among x zs) (is_among y zs) (stands_twice zs)
+    ap (λ b. (b || is_among x zs) || (is_among y zs || stands_twice zs)) (equals_turned x y)
+    ∙ or_crossed (y == x) (is_among x zs) (is_among y zs) (stands_twice zs)
 twice_permuted (join p q) = twice_permuted p ∙ twice_permuted q
 
 -- more elements, before or behind
@@ -250,12 +234,6 @@ module _ {S V F : Type 0} (statement : Statement (List ℕ) S V F) (elements : L
 
 -- ---- marks
 
-or_joined : (a b c d : Bool) → ((a || b) || (c || d)) ≡ ((a || c) || (b || d))
-or_joined a b c d = grind arith
-
-or_false : (b : Bool) → (b || false) ≡ b
-or_false b = grind arith
-
 or_among : (a b c d e : Bool) → ((a || b) || (c || (d || e))) ≡ ((b || c) || ((a || d) || e))
 or_among a b c d e = grind arith
 
@@ -272,7 +250,7 @@ any_either test one other is [] = refl
 any_either test one other is (x ∷ xs) =
     ap (λ b. b || list_any test xs) (is x)
     ∙ ap (λ b. (one x || other x) || b) (any_either test one other is xs)
-    ∙ or_joined (one x) (other x) (list_any one xs) (list_any other xs)
+    ∙ or_crossed (one x) (other x) (list_any one xs) (list_any other xs)
 
 any_agree : {A : Type 0} (test other : A → Bool) → ((x : A) → test x ≡ other x) → (xs : List A) →
     list_any test xs ≡ list_any other xs
@@ -289,7 +267,7 @@ twice_append (x ∷ xs) ys =
     ∙ ap (λ b. (is_among x xs || is_among x ys) || b) (twice_append xs ys)
     ∙ or_among (is_among x xs) (is_among x ys) among (stands_twice xs) (stands_twice ys)
     ∙ ap (λ b. (b || among) || ((is_among x xs || stands_twice xs) || stands_twice ys))
-    (any_agree (λ other. x == other) (λ other. other == x) (equal_turned x) ys)
+    (any_agree (λ other. x == other) (λ other. other == x) (equals_turned x) ys)
     ∙ sym (ap (λ b. b || ((is_among x xs || stands_twice xs) || stands_twice ys))
     (any_either (λ y. is_among y (x ∷ xs)) (λ y. y == x) (λ y. is_among y xs) (λ y. refl) ys))
 
@@ -353,7 +331,7 @@ module _ {T S V F : Type 0} (statement : Statement T S V F) (elements : T → V 
         twice_behind turns es.value es.after keeps marking known.0 known.1
         ∙ ap (λ b. b || (stands_twice stored || marks.twice es.after)) (any_none (marks.marked es.after) none.marked stored)
         ∙ ap (λ b. stands_twice stored || b) none.twice
-        ∙ or_false (stands_twice stored);
+        ∙ or-false (stands_twice stored);
   }
 
 -- ---- the test between two loops

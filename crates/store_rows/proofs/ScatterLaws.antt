@@ -6,6 +6,7 @@ use Rattle.std.proofs.Math.Path.{fun_ext}
 use Rattle.std.proofs.lemmas.Bool.{cases_eq, eq-eqb, ne_eqb, false≢true}
 use Rattle.std.proofs.lemmas.List.{get_or-set_other}
 use Rattle.a95_base.proofs.Lists.{Every-all}
+use Rattle.a95_base.proofs.Tests.{or_swapped}
 use Rattle.rank_shape.specs.Walk.{tour}
 use Rattle.store_laws.specs.Store.{Evaluated, Keeps, Ignores}
 use Rattle.store_laws.specs.Legal.{IsTold}
@@ -15,9 +16,6 @@ use Rattle.store_laws.proofs.TemporaryLaws.{ok_is}
 use Rattle.store_rows.specs.Pieces.{turn_of, extents, backwards, distances}
 use Rattle.store_rows.specs.Scatter.{Memory, scattered, element_of, marks, start, once, twice, Premises}
 use Rattle.store_rows.proofs.PieceLaws.{set_commutes, turn_below, one_later, same_turn}
-
-or_swapped : (a b c : Bool) → (a || (b || c)) ≡ (b || (a || c))
-or_swapped a b c = grind arith
 
 pub or_once : (a b : Bool) → (a || b) ≡ ((a || false) || b)
 or_once a b = grind arith

@@ -1,6 +1,6 @@
 use Rattle.std.proofs.Common.{rules, ◌-◌, arith}
+use Rattle.a95_base.specs.Input.{is_digit}
 use Rattle.f95_lexer.specs.Lexeme.{bytes_of, front}
-use Rattle.f95_lexer.specs.Characters.{is_digit}
 use Rattle.f95_lexer.proofs.Capped.{ended, none_left}
 use Rattle.f95_lexer.proofs.lexeme.digits.Goals as goal
 use Rattle.f95_lexer.proofs.lexeme.digits.Goals.{in_default, in-len1-up+then-not-is_digit}

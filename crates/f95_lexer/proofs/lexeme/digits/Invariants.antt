@@ -1,7 +1,7 @@
 use Rattle.std.proofs.Common.{◌≡◌, ◌≤◌, ◌+◌, ◌-◌, length}
+use Rattle.a95_base.specs.Input.{is_digit}
 use Rattle.f95_lexer.specs.Lexeme.{bytes_of, front, behind_front}
 use Rattle.f95_lexer.proofs.Capped.{capped_from}
-use Rattle.f95_lexer.specs.Characters.{is_digit}
 use Rattle.f95_lexer.proofs.lexeme.digits.Given as goal
 
 abbrev pub invariant-loop-rest : goal.invariant-loop-rest

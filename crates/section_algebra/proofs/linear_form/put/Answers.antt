@@ -1,8 +1,9 @@
 use Rattle.std.proofs.Common.{List, ◌++◌, ◌∷◌, [], ℤ, subst, sym, ap, ◌∙◌, of_z, w32}
 use Rattle.std.proofs.lemmas.Int.{to_z-of_z}
+use Rattle.a95_base.proofs.Integers.{fits_integer}
 use Rattle.section_algebra.specs.Form.{Term}
 use Rattle.section_algebra.specs.Merging.{Grows}
-use Rattle.section_algebra.proofs.Forms.{grows, fits_integer}
+use Rattle.section_algebra.proofs.Forms.{grows}
 use Rattle.section_algebra.proofs.linear_form.put.Goals as goal
 
 pub returns : goal.returns

@@ -4,9 +4,10 @@ use Rattle.std.proofs.lemmas.List.{take_all}
 use Rattle.a95_base.specs.Integer.{wrapped}
 use Rattle.a95_base.proofs.Lists.{Every-weaker}
 use Rattle.a95_base.proofs.Wrapping.{wrapped_is}
+use Rattle.a95_base.proofs.Integers.{integer_fits}
 use Rattle.section_algebra.specs.Form.{Term, sum_in, IsBelow}
 use Rattle.section_algebra.specs.Merging.{Takes}
-use Rattle.section_algebra.proofs.Forms.{integer_fits, no_term, takes_one, factor_at, next_above, still_below, scale_value}
+use Rattle.section_algebra.proofs.Forms.{no_term, takes_one, factor_at, next_above, still_below, scale_value}
 use Rattle.section_algebra.proofs.linear_form.terms_scaled.Goals as goal
 
 pub put-requires-clause-lesser : goal.put-requires-clause-lesser

@@ -2,7 +2,8 @@ use Rattle.std.proofs.Common.{ℤ, pos, ◌+ℤ◌, ◌-ℤ◌, subst, sym, ap, 
 use Rattle.std.specs.Prelude.{int_div}
 use Rattle.std.specs.Int.{int_max}
 use Rattle.std.proofs.lemmas.Int.{to_z-of_z}
-use Rattle.section_algebra.proofs.Readings.{read, steps_read, quotient_read, quotient_wide, count_natural}
+use Rattle.a95_base.proofs.Integers.{max_natural}
+use Rattle.section_algebra.proofs.Readings.{read, steps_read, quotient_read, quotient_wide}
 use Rattle.section_algebra.proofs.triplet.triplet_count.Goals as goal
 
 pub nonzero_div-last : goal.nonzero_div-last
@@ -21,4 +22,4 @@ returns c =
     ap read (quotient_read c.args.first c.args.last c.args.stride c.requires.first c.requires.last c.requires.stride)
     ∙ to_z-of_z w64 q (quotient_wide c.args.first c.args.last c.args.stride c.requires.first c.requires.last c.requires.stride)
     in
-    to_z-of_z w64 c.max.result wide ∙ c.max.ensures.value ∙ ap (λ x. int_max x (pos 0)) q_is ∙ sym (count_natural q)
+    to_z-of_z w64 c.max.result wide ∙ c.max.ensures.value ∙ ap (λ x. int_max x (pos 0)) q_is ∙ sym (max_natural q)

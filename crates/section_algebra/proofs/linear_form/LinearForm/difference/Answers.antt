@@ -2,8 +2,9 @@ use Rattle.std.proofs.Common.{◌≡◌, ℕ, ℤ, ◌-ℤ◌, sym, ap, ◌∙�
 use Rattle.std.proofs.lemmas.Int.{wrapping_sub_is}
 use Rattle.a95_base.specs.Integer.{wrapped, difference_of}
 use Rattle.a95_base.proofs.Wrapping.{wrapped_is}
+use Rattle.a95_base.proofs.Integers.{integer_fits}
 use Rattle.section_algebra.specs.Form.{sum_in}
-use Rattle.section_algebra.proofs.Forms.{integer_fits, factors_apart, value_apart}
+use Rattle.section_algebra.proofs.Forms.{factors_apart, value_apart}
 use Rattle.section_algebra.proofs.linear_form.LinearForm.difference.Goals as goal
 
 known : (c : goal.After-result-2-1) (values : ℕ → ℤ)

@@ -2,8 +2,9 @@ use Rattle.std.proofs.Common.{◌≡◌, ℕ, ℤ, ◌*ℤ◌, sym, ap, ◌∙�
 use Rattle.std.proofs.lemmas.Int.{to_z-of_z, wrapping_mul_is}
 use Rattle.a95_base.specs.Integer.{wrapped, product_of}
 use Rattle.a95_base.proofs.Wrapping.{wrapped_is}
+use Rattle.a95_base.proofs.Integers.{integer_fits}
 use Rattle.section_algebra.specs.Form.{sum_in}
-use Rattle.section_algebra.proofs.Forms.{integer_fits, factors_scaled, value_scaled}
+use Rattle.section_algebra.proofs.Forms.{factors_scaled, value_scaled}
 use Rattle.section_algebra.proofs.linear_form.LinearForm.scaled.Goals as goal
 
 known : (c : goal.After-result-1) (values : ℕ → ℤ)

@@ -7,11 +7,12 @@ ghost use Rattle.f95_expressions.specs.Machine.{alone, is_closed_by, separated, 
 ghost use Rattle.f95_expressions.specs.Machine.{first_step, opened, ended_by, next_mark, next_step, did_step, step, row_of};
 ghost use Rattle.f95_expressions.specs.Machine.{row_found, ended, ending_of, is_row, row_ending};
 
-use crate::closing::{bracketed, implied, items_of, made_part, values_of};
-use crate::field::{assigned, coloned, field_of};
 use crate::levels::{left_of, level, right_of, sign_level, under_sign};
-use crate::pending::{Bracket, Ending, Field, Held, Machine, Pending, Stage, pushed};
 use a95_base::{SharedBytes, Stack};
+use f95_expressions::{
+    Bracket, Ending, Field, Held, Machine, Pending, Stage, assigned, bracketed, coloned, field_of,
+    implied, items_of, made_part, pushed, values_of,
+};
 use f95_tree::{
     Expression, Item, Literal, Operator, Punctuation, Reference, Sign, Terminal, Value,
 };
@@ -104,7 +105,7 @@ fn next_made(least: u8, stack: &mut Stack<Pending>) -> Option<Pending>
 }
 
 /// All pending operations of at least this level are made.
-#[tactic(auto, using(crate::proofs::Reduce::reduced_more, crate::proofs::Reduce::reduced_done))]
+#[tactic(auto, using(f95_expressions::proofs::Reduce::reduced_more, f95_expressions::proofs::Reduce::reduced_done))]
 fn reduce(
     alloc: Global,
     least: u8,
@@ -850,7 +851,7 @@ fn row_ending(ending: Ending) -> Result<Option<Stack<Field>>, AllocError>
 }
 
 /// The fields of a row that ends here.
-#[tactic(auto, using(crate::proofs::Runs::row_parts))]
+#[tactic(auto, using(f95_expressions::proofs::Runs::row_parts))]
 fn row_of(stack: Stack<Pending>, last: Option<Value>) -> Result<Option<Stack<Field>>, AllocError>
     ensures { IfOk result (λ fields. fields ≡ option_and_then row_found (row_of stack last)) }
 {

@@ -12,9 +12,10 @@ ghost use Rattle.f95_nesting.specs.Machine.{elsewhere_of, where_block, closed_pa
 ghost use Rattle.f95_nesting.specs.Machine.{end_where, where_move, forall_move};
 
 use crate::blocks::{Around, more, with_block};
-use crate::open::{Body, Inner, WhereFrame, WherePart};
-use crate::roles::{ForallForm, WhereForm, forall_form, where_form};
 use a95_base::{Line, Stack};
+use f95_nesting::{
+    Body, ForallForm, Inner, WhereForm, WhereFrame, WherePart, forall_form, where_form,
+};
 use f95_tree::{
     Assignment, ElseWhere, Expression, Form, Header, Statement, WhereBlock, WhereStatement,
 };
@@ -237,7 +238,7 @@ fn with_part(
 }
 
 /// ELSEWHERE, if it may follow.
-#[tactic(auto, using(crate::proofs::ByRole::parted_as))]
+#[tactic(auto, using(f95_nesting::proofs::ByRole::parted_as))]
 fn parted_where(
     alloc: Global,
     so_far: WhereSoFar,
@@ -417,7 +418,7 @@ fn where_by(
 }
 
 /// One statement more inside WHERE.
-#[tactic(auto, using(crate::proofs::ByRole::where_move_by))]
+#[tactic(auto, using(f95_nesting::proofs::ByRole::where_move_by))]
 pub fn where_move(
     alloc: Global,
     so_far: WhereSoFar,
@@ -489,7 +490,7 @@ fn forall_by(so_far: ForallSoFar, line: Line, form: ForallForm) -> Result<Option
 }
 
 /// One statement more inside FORALL.
-#[tactic(auto, using(crate::proofs::ByRole::forall_move_by))]
+#[tactic(auto, using(f95_nesting::proofs::ByRole::forall_move_by))]
 pub fn forall_move(so_far: ForallSoFar, line: Line, form: Form) -> Result<Option<Body>, AllocError>
     ensures { IfOk result
         (λ b. b ≡ forall_move so_far.around.outer so_far.around.before so_far.line so_far.header so_far.done line form) }

@@ -7,9 +7,11 @@ ghost use Rattle.f95_nesting.specs.Machine.{has_default, next_case, in_else_if, 
 ghost use Rattle.f95_nesting.specs.declared.open.Block.TheVariants as block_of;
 ghost use Rattle.f95_nesting.specs.Roles.{if_by, select_by, do_block};
 
-use crate::open::{Block, Body, BranchHead, CaseHead, DoHead, Frame, IfHead, Inner, SelectHead};
-use crate::roles::{IfPart, SelectPart, end_of_do, end_of_if, if_part, select_part};
 use a95_base::{Line, SharedBytes, Stack};
+use f95_nesting::{
+    Block, Body, BranchHead, CaseHead, DoHead, Frame, IfHead, IfPart, Inner, SelectHead,
+    SelectPart, end_of_do, end_of_if, if_part, select_part,
+};
 use f95_tree::{BlockForm, Branch, Case, CaseRange, Ending, Otherwise, Statement};
 use sqlite_items::{Boxed, Items};
 use std::alloc::{AllocError, Global};
@@ -270,7 +272,7 @@ fn if_by(
 }
 
 /// A statement of IF before ELSE, behind the bodies of IF and of these ELSE IFs.
-#[tactic(auto, using(crate::proofs::ByRole::in_else_if_by))]
+#[tactic(auto, using(f95_nesting::proofs::ByRole::in_else_if_by))]
 fn in_else_if(
     alloc: Global,
     around: Around,
@@ -289,7 +291,7 @@ fn in_else_if(
 }
 
 /// A statement behind ELSE.
-#[tactic(auto, using(crate::proofs::ByRole::in_else_by))]
+#[tactic(auto, using(f95_nesting::proofs::ByRole::in_else_by))]
 fn in_else(
     alloc: Global,
     around: Around,
@@ -333,7 +335,7 @@ fn do_block(head: DoHead, body: Items<Statement>, line: Line, end: Option<Shared
 }
 
 /// A statement that ends DO.
-#[tactic(auto, using(crate::proofs::ByRole::in_do_by))]
+#[tactic(auto, using(f95_nesting::proofs::ByRole::in_do_by))]
 fn in_do(
     around: Around,
     head: DoHead,
@@ -363,7 +365,7 @@ fn is_default(ranges: &Option<Items<CaseRange>>) -> bool
 }
 
 /// Whether CASE DEFAULT is among them.
-#[tactic(auto, using(crate::proofs::Defaults::default_first, crate::proofs::Defaults::default_rest))]
+#[tactic(auto, using(f95_nesting::proofs::Defaults::default_first, f95_nesting::proofs::Defaults::default_rest))]
 fn has_default(cases: &[Case]) -> bool
     ensures { result ≡ has_default cases.now }
 {
@@ -463,7 +465,7 @@ fn behind_else_if(
 }
 
 /// A statement behind CASE and its body.
-#[tactic(auto, using(crate::proofs::ByRole::in_select_by))]
+#[tactic(auto, using(f95_nesting::proofs::ByRole::in_select_by))]
 fn behind_case(
     alloc: Global,
     around: Around,
@@ -497,7 +499,7 @@ fn behind_case(
 }
 
 /// A statement that parts or ends a block.
-#[tactic(auto, using(crate::proofs::ByRole::first_body))]
+#[tactic(auto, using(f95_nesting::proofs::ByRole::first_body))]
 fn in_block(
     alloc: Global,
     around: Around,

@@ -4,13 +4,13 @@ ghost use Rattle.std.specs.Prelude.{◌≡◌, ◌⊎◌, ◌∷◌, [], true, f
 ghost use Rattle.f95_expressions.specs.Machine.{bracket, row, closed_at, is_closed};
 
 use crate::machine::{ended_row, fresh, step};
-use crate::pending::{Bracket, Field, Machine};
 use a95_base::Stack;
+use f95_expressions::{Bracket, Field, Machine};
 use f95_tree::Terminal;
 use std::alloc::{AllocError, Global};
 
 /// The fields of all terminals, the newest one first: exactly the well-formed fields that they spell, if they spell any.
-#[tactic(auto, using(crate::proofs::Runs::row_step, crate::proofs::Runs::row_end))]
+#[tactic(auto, using(f95_expressions::proofs::Runs::row_step, f95_expressions::proofs::Runs::row_end))]
 pub fn row(alloc: Global, terminals: &[Terminal]) -> Result<Option<Stack<Field>>, AllocError>
     ensures { IfOk result (λ fields. fields ≡ row terminals.now) }
 {

@@ -1,6 +1,6 @@
 use Rattle.std.proofs.Common.{arith}
 use Rattle.f95_expressions.proofs.Runs.{row_on}
-use Rattle.f95_expressions.proofs.run.row.Goals as goal
+use Rattle.f95_fields.proofs.run.row.Goals as goal
 
 pub loop-terminal-preserved : goal.loop-terminal-preserved
 loop-terminal-preserved c =

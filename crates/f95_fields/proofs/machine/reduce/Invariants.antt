@@ -1,5 +1,5 @@
 use Rattle.std.proofs.Common.{◌≡◌, ℕ, length}
-use Rattle.f95_expressions.proofs.machine.reduce.Given as goal
+use Rattle.f95_fields.proofs.machine.reduce.Given as goal
 use Rattle.f95_expressions.specs.Machine.{reduce}
 
 abbrev pub invariant-making : goal.invariant-making

@@ -1,6 +1,6 @@
 use Rattle.std.proofs.Common.{◌≡◌, ℕ, length}
 use Rattle.std.specs.Prelude.{option_and_then}
-use Rattle.f95_expressions.proofs.run.bracket.Given as goal
+use Rattle.f95_fields.proofs.run.bracket.Given as goal
 use Rattle.f95_expressions.specs.Machine.{run, closed_found, bracket}
 
 abbrev pub invariant-reading : goal.invariant-reading

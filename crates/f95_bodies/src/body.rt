@@ -7,12 +7,13 @@ ghost use Rattle.f95_nesting.specs.Machine.{context, statements_move, select_mov
 ghost use Rattle.f95_nesting.specs.Machine.{done_at, done_of};
 ghost use Rattle.f95_nesting.specs.declared.roles.Opening.TheVariants as opening_of;
 
-use crate::around::action_stands;
 use crate::blocks::{Around, SelectSoFar, in_frames, open_block, select_by, with_block};
-use crate::open::{Block, Body, DoHead, Frame, IfHead, Inner, SelectHead, WhereFrame, WherePart};
-use crate::roles::{BodyForm, Opening, body_form, opening_form, select_form};
 use crate::wheres::{ForallSoFar, WhereSoFar, forall_move, where_move};
 use a95_base::{Line, SharedBytes, Stack};
+use f95_nesting::{
+    Block, Body, BodyForm, DoHead, Frame, IfHead, Inner, Opening, SelectHead, WhereFrame,
+    WherePart, action_stands, body_form, opening_form, select_form,
+};
 use f95_tree::{Action, BlockForm, Expression, Form, Header, Statement};
 use sqlite_items::{Boxed, Items};
 use std::alloc::{AllocError, Global};
@@ -168,7 +169,7 @@ fn statements_by(
 }
 
 /// One statement more behind these, which no block but the outer ones holds.
-#[tactic(auto, using(crate::proofs::ByRole::statements_move_by))]
+#[tactic(auto, using(f95_nesting::proofs::ByRole::statements_move_by))]
 fn statements_move(
     alloc: Global,
     procedure: bool,
@@ -187,7 +188,7 @@ fn statements_move(
 }
 
 /// The first CASE or the end of SELECT CASE.
-#[tactic(auto, using(crate::proofs::ByRole::select_move_by))]
+#[tactic(auto, using(f95_nesting::proofs::ByRole::select_move_by))]
 fn select_move(
     alloc: Global,
     around: Around,

@@ -1,5 +1,5 @@
 use Rattle.std.proofs.Common.{◌≡◌, ℕ, length}
-use Rattle.f95_nesting.proofs.blocks.has_default.Given as goal
+use Rattle.f95_bodies.proofs.blocks.has_default.Given as goal
 use Rattle.f95_nesting.specs.Machine.{has_default}
 
 abbrev pub invariant-cases : goal.invariant-cases
