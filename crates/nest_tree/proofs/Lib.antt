@@ -6,6 +6,7 @@ pub mod Paid
 pub mod PaidRuns
 pub mod Bounded
 pub mod Stays
+pub mod Sorts
 pub mod StoresRows
 pub mod ControlRows
 pub mod CallsRows
