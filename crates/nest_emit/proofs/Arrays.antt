@@ -4,6 +4,7 @@ use Rattle.std.specs.Prelude.{set, map}
 use Rattle.std.proofs.lemmas.List.{get_or-set_same, get_or-set_other, length-set, map-set}
 use Rattle.a95_base.specs.declared.scalar.Scalar.{Scalar}
 use Rattle.a95_base.proofs.Lists.{Every-set}
+use Rattle.array_meaning.specs.Values.{length_of}
 use Rattle.array_meaning.specs.State.{Array, Variable, no_variable}
 use Rattle.nest_tree.specs.declared.access.Name.{Name}
 use Rattle.nest_tree.specs.declared.access.Name.TheVariants as name
@@ -17,12 +18,11 @@ use Rattle.loop_tree.specs.State.{Cells, Ints, Block, cells_numbered, with_cells
 use Rattle.loop_tree.specs.Values.{number_at, text_at}
 use Rattle.loop_laws.specs.At.{Variables, with_blocks}
 use Rattle.loop_laws.proofs.Numbered.{changed_here, changed_elsewhere, freed_here, freed_elsewhere}
-use Rattle.nest_emit.specs.Numbers.{array_number, first_free, scalar_number}
+use Rattle.nest_emit.specs.Numbers.{array_number, length_number, leaving_number, scalar_number}
 use Rattle.nest_emit.specs.Trees.{number_for}
-use Rattle.nest_emit.specs.Emits.{is_text}
-use Rattle.nest_emit.specs.Kin.{IsOf, Shows, is_text_scalar, cells_of, held, cells_held, block_of, Stands, StandsIf, Arrays, Around, Kin, SameOthers}
+use Rattle.nest_emit.specs.Kin.{IsOf, Shows, Fitted, FittedIf, GrowsIf, is_text, is_text_scalar, cells_of, held, cells_held, block_of, Stands, StandsIf, Arrays, Around, Kin, SameOthers}
 use Rattle.nest_emit.proofs.Values.{shows_as, scalar_below, array_below, one_array, own_number}
-use Rattle.nest_emit.proofs.Kin.{same_stands, set_at_here, set_at_other}
+use Rattle.nest_emit.proofs.Kin.{same_stands, same_fitted, set_at_here, set_at_other}
 
 -- ---- one block of the memory
 
@@ -61,12 +61,14 @@ many_same m (name.Temp i) b = refl
 pub record ArrayChanged (q : Procedure) (n : Name) (s : Sort) (b : Variable) (v w : Variables) : Type 0 where
   pub others : (k : Name) (r : Sort) → sort_of_name q k ≡ Some r → k ≢ n →
       held w.blocks (block_of r w (array_number q k)) ≡ held v.blocks (block_of r v (array_number q k))
-  pub ints : (x : ℕ) → x < first_free q → (x < 16 * array_number q n) ⊎ (16 * array_number q n + 16 ≤ x) →
+  pub ints : (x : ℕ) → x < leaving_number q → (x < 16 * array_number q n) ⊎ (16 * array_number q n + 16 ≤ x) →
       number_at w.ints x ≡ number_at v.ints x
-  pub texts : (x : ℕ) → x < first_free q → text_at w.texts x ≡ text_at v.texts x
+  pub texts : (x : ℕ) → x < leaving_number q → text_at w.texts x ≡ text_at v.texts x
   pub here : held w.blocks (block_of s w (array_number q n)) ≡ cells_held s b.held
   pub stands : StandsIf s w.ints (array_number q n) b.held
   pub plain : is_text (Some s) ≡ false → is_text_scalar b.blank ≡ false
+  pub fitted : (i : ℕ) → n ≡ name.Own i → s ≡ sort.Text → FittedIf w.ints i b.blank b.held
+  pub grows : GrowsIf s b.blank b.held
   pub apart : (i k : Name) (r u : Sort) (number : ℕ) → sort_of_name q i ≡ Some r → sort_of_name q k ≡ Some u →
       block_of r w (array_number q i) ≡ Some number → block_of u w (array_number q k) ≡ Some number → i ≡ k
   pub below : (k : Name) (r : Sort) (number : ℕ) → sort_of_name q k ≡ Some r → block_of r w (array_number q k) ≡ Some number →
@@ -81,6 +83,8 @@ module _ {q : Procedure} {n : Name} {s : Sort} {b : Variable} {v w : Variables} 
     plain = λ k r h text. plain_by k r h text (same_name q k n r s h is);
     seen = λ k r h. seen_by k r h (same_name q k n r s h is);
     whole = λ k r h. whole_by k r h (same_name q k n r s h is);
+    grows = λ k r h. grows_by k r h (same_name q k n r s h is);
+    fitted = λ i h. fitted_by i h (same_name q (name.Own i) n sort.Text s h is);
     apart = c.apart;
     below = c.below;
   }
@@ -137,6 +141,35 @@ module _ {q : Procedure} {n : Name} {s : Sort} {b : Variable} {v w : Variables} 
               (λ x from below. c.ints x (let within = array_below q k r h in omega (arith, within, below))
               (away k x from below side)) st
 
+      grows_by : (k : Name) (r : Sort) → sort_of_name q k ≡ Some r → (k ≡ n) ⊎ (k ≢ n) →
+          GrowsIf r (block_in (with_block m n b) k).blank (block_in (with_block m n b) k).held
+      grows_by k r h (inl e) =
+          subst (λ (x : Variable). GrowsIf r x.blank x.held) (sym (now k e))
+          (subst (λ u. GrowsIf u b.blank b.held) (sorts k r h e) c.grows)
+      grows_by k r h (inr ne) =
+          subst (λ (x : Variable). GrowsIf r x.blank x.held) (sym (block_other m n k b ne)) (a.grows k r h)
+
+      fitted_by : (i : ℕ) → sort_of_name q (name.Own i) ≡ Some sort.Text → (name.Own i ≡ n) ⊎ (name.Own i ≢ n) →
+          FittedIf w.ints i (block_in (with_block m n b) (name.Own i)).blank (block_in (with_block m n b) (name.Own i)).held
+      fitted_by i h (inl e) =
+          subst (λ (x : Variable). FittedIf w.ints i x.blank x.held) (sym (now (name.Own i) e))
+          (c.fitted i (sym e) (sorts (name.Own i) sort.Text h e))
+      fitted_by i h (inr ne) =
+          let apart : array_number q (name.Own i) ≢ array_number q n = λ e. ne (one_array q (name.Own i) n sort.Text s h is e) in
+          let side : (length_number i < 16 * array_number q n) ⊎ (16 * array_number q n + 16 ≤ length_number i) = by (one_side apart) in
+          subst (λ (x : Variable). FittedIf w.ints i x.blank x.held) (sym (block_other m n (name.Own i) b ne))
+          (same_fitted v.ints w.ints i (block_in m (name.Own i)).blank (block_in m (name.Own i)).held
+          (c.ints (length_number i) (let within = array_below q (name.Own i) sort.Text h in omega (arith, within)) side)
+          (a.fitted i h))
+        where
+          one_side : i ≢ array_number q n → (i < array_number q n) ⊎ (array_number q n < i)
+          one_side ne' = grind arith
+
+          by : (i < array_number q n) ⊎ (array_number q n < i) →
+              (length_number i < 16 * array_number q n) ⊎ (16 * array_number q n + 16 ≤ length_number i)
+          by (inl less) = inl (omega (arith, less))
+          by (inr more) = inr (omega (arith, more))
+
   pub kin_array : {around : Around} {st : NestState} → Kin q around st v →
       Kin q around (with_memory st (with_block (memory_of st.cells) n b)) w
   kin_array {around} {st} kin = record {
@@ -166,7 +199,7 @@ pub living : (blocks : List Block) (r : Option ℕ) (cells : Cells) → held blo
 living blocks None cells h = cc
 living blocks (Some number) cells h = record { number = number; named = refl; there = h }
 
-other_block : (blocks new : List Block) (r : Option ℕ) (number : ℕ) →
+pub other_block : (blocks new : List Block) (r : Option ℕ) (number : ℕ) →
     ((j : ℕ) → number ≢ j → cells_numbered new j ≡ cells_numbered blocks j) →
     (r ≡ Some number → ⊥) → held new r ≡ held blocks r
 other_block blocks new None number same ne = refl
@@ -183,13 +216,19 @@ cells_stored sort.Text xs k x h = cc
 
 module _ {q : Procedure} {around : Around} {st : NestState} {v : Variables} (n : Name) (s : Sort) (is : sort_of_name q n ≡ Some s)
     (a : Array) (there : (block_in (memory_of st.cells) n).held ≡ Some a) (kin : Kin q around st v) where
-  -- an element of an array takes a value
+  pub known : (i : ℕ) → n ≡ name.Own i → s ≡ sort.Text → Fitted v.ints i (block_in (memory_of st.cells) n).blank a
+  known i own text = subst (λ o. FittedIf v.ints i (block_in (memory_of st.cells) n).blank o) there
+      (subst (λ k. FittedIf v.ints i (block_in (memory_of st.cells) k).blank (block_in (memory_of st.cells) k).held) (sym own)
+      (kin.arrays.fitted i (ap (sort_of_name q) (sym own) ∙ is ∙ ap Some text)))
+
+  -- an element of an array takes a value, in a declared variable of texts one of its length
   pub kin_stored : (k : ℕ) (x : Scalar) → IsOf s x →
+      ((i : ℕ) → n ≡ name.Own i → s ≡ sort.Text → length_of x ≡ length_of (block_in (memory_of st.cells) n).blank) →
       (l : Living v.blocks (block_of s v (array_number q n)) (cells_of s a.elements)) →
       Kin q around (with_memory st
       (with_block (memory_of st.cells) n (with_elements (block_in (memory_of st.cells) n) a (set a.elements k x))))
       (with_blocks v (with_cells v.blocks l.number (cells_of s (set a.elements k x))))
-  kin_stored k x of l = kin_array is (record {
+  kin_stored k x of long l = kin_array is (record {
     others = λ i r h ne. other_block v.blocks (with_cells v.blocks l.number (cells_of s (set a.elements k x)))
         (block_of r v (array_number q i)) l.number
         (λ j apart. changed_elsewhere v.blocks l.number j (cells_of s (set a.elements k x)) apart)
@@ -210,6 +249,15 @@ module _ {q : Procedure} {around : Around} {st : NestState} {v : Variables} (n :
           bounds = old.bounds;
         };
     plain = λ text. kin.arrays.plain n s is text;
+    grows = subst (λ o. GrowsIf s (block_in (memory_of st.cells) n).blank o) there (kin.arrays.grows n s is);
+    fitted = λ i own text.
+        let same = known i own text in record {
+          text = same.text;
+          length = same.length;
+          small = same.small;
+          elements = Every-set (λ y. length_of y ≡ length_of (block_in (memory_of st.cells) n).blank) a.elements k x (long i own text)
+              same.elements;
+        };
     apart = kin.arrays.apart;
     below = kin.arrays.below;
     rest = record { pending = refl; input = refl; callers = refl };
@@ -227,6 +275,8 @@ module _ {q : Procedure} {around : Around} {st : NestState} {v : Variables} (n :
     here = ap (held (without v.blocks l.number)) l.named ∙ freed_here v.blocks l.number;
     stands = tt;
     plain = λ text. kin.arrays.plain n s is text;
+    grows = tt;
+    fitted = λ i own text. tt;
     apart = kin.arrays.apart;
     below = kin.arrays.below;
     rest = record { pending = refl; input = refl; callers = refl };

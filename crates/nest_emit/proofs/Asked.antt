@@ -6,6 +6,7 @@ use Rattle.a95_base.specs.declared.scalar.Scalar.{Scalar}
 use Rattle.a95_base.specs.declared.scalar.Scalar.TheVariants as scalar
 use Rattle.a95_base.specs.Lists.{Every}
 use Rattle.std.proofs.lemmas.Bool.{and_parts}
+use Rattle.nest_tree.proofs.Sorts.{sort_if_some}
 use Rattle.array_meaning.specs.Values.{text_of, size_of}
 use Rattle.array_meaning.specs.State.{Dimension as Bounds, extent_of, extents_of, Array}
 use Rattle.nest_tree.specs.declared.access.Name.{Name}
@@ -36,7 +37,7 @@ use Rattle.nest_emit.specs.Emits.{emits_question}
 use Rattle.nest_emit.specs.Meets.{DoesAt}
 use Rattle.nest_emit.specs.Kin.{Shows, cells_of as block_cells, held, cells_held, block_of, BoundsAt, Narrow, Stands, StandsIf}
 use Rattle.nest_emit.proofs.Runs.{sees_it}
-use Rattle.nest_emit.proofs.Values.{some_is, sort_if_some, reference_is, there_is}
+use Rattle.nest_emit.proofs.Values.{some_is, reference_is, there_is}
 use Rattle.nest_emit.proofs.Rows.{read_atom, set_does}
 use Rattle.nest_emit.proofs.Indices.{small_wrap}
 use Rattle.nest_emit.proofs.Arrays.{living}
@@ -98,7 +99,7 @@ dimension_sort q (name.Temp t) dim h = there_is (slice_get q.blocks t)
 
 -- ---- blocks
 
-read_size : (v : Variables) (r : Reference) (cells : Cells) → cells_at v.blocks (number_of v r) ≡ Ok cells →
+pub read_size : (v : Variables) (r : Reference) (cells : Cells) → cells_at v.blocks (number_of v r) ≡ Ok cells →
     int_read v (int_row.Size r) ≡ Ok (pos (cell_count cells))
 unfolding int_value
 read_size v r cells h = ap (λ (c : Result Cells StuckState). and_then c (λ cells. Ok (pos (cell_count cells)))) h
@@ -108,7 +109,7 @@ read_live : (v : Variables) (r : Reference) →
 unfolding int_value
 read_live v r = refl
 
-count_cells : (s : Sort) (xs : List Scalar) → cell_count (block_cells s xs) ≡ length xs
+pub count_cells : (s : Sort) (xs : List Scalar) → cell_count (block_cells s xs) ≡ length xs
 count_cells sort.Exact xs = length-map xs number_for
 count_cells sort.Int xs = length-map xs number_for
 count_cells sort.Log xs = length-map xs number_for

@@ -1,17 +1,20 @@
 -- The rows of an operator with two operands leave its value, or its fault.
-use Rattle.std.proofs.Common.{◌≡◌, ℕ, ◌≤◌, Bool, true, false, not, ◌&&◌, ◌||◌, List, [], ◌∷◌, ◌++◌, Option, Some, None, refl, sym, ap, ◌∙◌, ℤ, pos}
-use Rattle.std.specs.Prelude.{Result, Ok, Err, ◌+ℤ◌, ◌-ℤ◌, ◌*ℤ◌, int_div}
-use Rattle.std.specs.Int.{w64, int_wrap}
+use Rattle.std.proofs.Common.{◌≡◌, ℕ, suc, ◌^◌, ◌≤◌, arith, Bool, true, false, not, ◌&&◌, ◌||◌, List, [], ◌∷◌, ◌++◌, Option, Some, None, refl, sym, ap, ◌∙◌, ℤ, pos}
+use Rattle.std.specs.Prelude.{FitsSigned, Result, Ok, Err, negsuc, ◌+ℤ◌, ◌-ℤ◌, ◌*ℤ◌, int_lt, int_div, int_rem}
+use Rattle.std.specs.Int.{w32, w64, int_wrap, int_pow}
+use Rattle.std.proofs.Math.Nat.{pow-suc, mul-zero}
+use Rattle.std.proofs.lemmas.Bool.Decides.{Decides-int_eq}
 use Rattle.std.specs.Ordering.{int_eq, int_cmp}
 use Rattle.a95_base.specs.declared.fault.FaultKind.{FaultKind}
 use Rattle.a95_base.specs.declared.fault.FaultKind.TheVariants as fault
 use Rattle.a95_base.specs.declared.scalar.Scalar.{Scalar}
 use Rattle.a95_base.specs.declared.scalar.Scalar.TheVariants as scalar
-use Rattle.a95_base.specs.Integer.{wrapped, quotient_of}
+use Rattle.a95_base.specs.Integer.{wrapped, raised, quotient_of, power_of}
 use Rattle.a95_base.specs.Text.{compare_padded}
 use Rattle.a95_base.specs.Steps.{behind, ◌>>=◌}
 use Rattle.a95_base.proofs.Wrapping.{wrapped-int_wrap}
 use Rattle.std.proofs.lemmas.Bool.{and_parts, not-true, not-false}
+use Rattle.nest_tree.proofs.Sorts.{sort_if_some}
 use Rattle.f95_unit.specs.declared.operation.BinaryOp.{BinaryOp}
 use Rattle.f95_unit.specs.declared.operation.BinaryOp.TheVariants as binary
 use Rattle.array_meaning.specs.Values.{integer_of, truth_of, text_of}
@@ -30,20 +33,23 @@ use Rattle.loop_tree.specs.declared.atom.Operator.TheVariants as operator
 use Rattle.loop_tree.specs.declared.row.IntValue.TheVariants as int
 use Rattle.loop_tree.specs.declared.row.TextValue.TheVariants as words
 use Rattle.loop_tree.specs.declared.tree.CodeLine.{CodeLine}
+use Rattle.loop_tree.specs.declared.tree.CodeLine.TheVariants as code
+use Rattle.loop_tree.specs.declared.tree.Stmt.TheVariants as stmt
 use Rattle.loop_tree.specs.declared.tree.Function.{Function}
 use Rattle.loop_tree.specs.Lines.{flats}
-use Rattle.loop_tree.specs.State.{Brace}
-use Rattle.loop_tree.specs.Values.{number_at, text_at, truth, operation, order_number}
+use Rattle.loop_tree.specs.State.{Brace, Choice}
+use Rattle.loop_tree.specs.Values.{number_at, text_at, truth, holds, operation, order_number, power, power_of as power_row}
+use Rattle.loop_laws.proofs.Within.{truth_holds}
 use Rattle.loop_laws.specs.At.{Variables, value_of, bytes_of}
 use Rattle.nest_emit.specs.Numbers.{first_free}
-use Rattle.nest_emit.specs.Trees.{compute, computed, unless_fault, compare_line, compared_lines, binary_lines}
+use Rattle.nest_emit.specs.Trees.{set, compute, computed, inverse_lines, power_lines, unless_fault, compare_line, compared_lines, binary_lines}
 use Rattle.nest_emit.specs.Meets.{DoesAt}
-use Rattle.nest_emit.specs.Emits.{emits_binary}
 use Rattle.nest_emit.specs.Kin.{Around, Kin, Keeps, Shows}
-use Rattle.nest_emit.proofs.Runs.{told, guard_does}
-use Rattle.nest_emit.proofs.Values.{sort_if_some, int_shown, truth_shown, text_shown}
-use Rattle.nest_emit.proofs.Rows.{read_compare, read_join, adds, subtracts, multiplies, set_does, say_does, compute_does, computed_does}
-use Rattle.nest_emit.proofs.Kin.{keeps_then}
+use Rattle.nest_emit.proofs.Runs.{told, guard_does, either_does, behind_else, behind_close}
+use Rattle.nest_emit.proofs.Integers.{inverse_odd, inverse_even, square_wide, square_some, negative_is, natural_is, is_odd, is_even}
+use Rattle.nest_emit.proofs.Values.{int_shown, int_fits, truth_shown, text_shown}
+use Rattle.nest_emit.proofs.Rows.{read_atom, read_power, read_compare, read_join, adds, subtracts, multiplies, divides, remains, is_less, set_does, say_does, compute_does, computed_does}
+use Rattle.nest_emit.proofs.Kin.{keeps_then, keeps_less}
 use Rattle.nest_emit.proofs.Comparisons.{order_test, order_of_number}
 use Rattle.nest_emit.proofs.Operators.{compare_does, int_there}
 
@@ -56,7 +62,7 @@ and_rows true false = refl
 and_rows false true = refl
 and_rows false false = refl
 
-or_rows : (a b : Bool) → operation operator.Or (truth a) (truth b) ≡ Ok (truth (a || b))
+pub or_rows : (a b : Bool) → operation operator.Or (truth a) (truth b) ≡ Ok (truth (a || b))
 unfolding operation
 or_rows true true = refl
 or_rows true false = refl
@@ -77,14 +83,10 @@ other_truth true false = refl
 other_truth false true = refl
 other_truth false false = refl
 
-by_truths : (op : Operator) (x y : ℤ) (a b c : Bool) → x ≡ truth a → y ≡ truth b →
+pub by_truths : (op : Operator) (x y : ℤ) (a b c : Bool) → x ≡ truth a → y ≡ truth b →
     operation op (truth a) (truth b) ≡ Ok (truth c) →
     operation op x y ≡ Ok (truth c)
 by_truths op x y a b c e f h = ap (λ z. operation op z y) e ∙ ap (λ z. operation op (truth a) z) f ∙ h
-
-pub divides : (x y : ℤ) → int_eq y (pos 0) ≡ false → operation operator.Divide x y ≡ Ok (int_wrap w64 (int_div x y))
-unfolding operation
-divides x y h = rw h refl
 
 no_quotient : (x y : ℤ) → int_eq y (pos 0) ≡ true → integer_or fault.ZeroDivide (quotient_of x y) ≡ Err fault.ZeroDivide
 no_quotient x y h = rw h refl
@@ -104,6 +106,20 @@ pub value_given : (line : ℕ) (a : Scalar) (r : Result Scalar FaultKind) (go : 
     (given line r >>= go) n ≡ go a n
 unfolding given ◌>>=◌ behind
 value_given line a r go n e = rw e refl
+
+-- no number is one divided by 0
+no_inverse : (i : ℤ) (m : ℕ) → int_eq i (pos 0) ≡ true → (j : ℤ) → j ≡ negsuc m →
+    integer_or fault.ZeroDivide (power_of i j) ≡ Err fault.ZeroDivide
+no_inverse i m e j is =
+    let zero : i ≡ pos 0 = (Decides-int_eq i (pos 0)).0 e in
+    let none : 0 ^ suc m ≡ 0 = pow-suc 0 m ∙ mul-zero (0 ^ m) in
+    ap (λ z. integer_or fault.ZeroDivide (power_of i z)) is ∙ ap (λ z. integer_or fault.ZeroDivide (power_of z (negsuc m))) zero
+    ∙ ap (λ k. integer_or fault.ZeroDivide (quotient_of (pos 1) (pos k))) none
+
+natural_power : (i j : ℤ) (m : ℕ) → j ≡ pos m → (k l : ℤ) → k ≡ i → l ≡ j → wrapped i ≡ i → wrapped j ≡ j →
+    power k l ≡ Ok (raised i m)
+natural_power i j m is k l base exponent fits other =
+    ap (λ z. power z l) base ∙ ap (λ z. power i z) exponent ∙ ap (λ z. power_row z (wrapped j)) fits ∙ ap (λ z. power_row i z) (other ∙ is)
 
 -- ---- sorts
 
@@ -182,6 +198,61 @@ binary_fits binary.Or o p s h = fitting o p sort.Log sort.Log s h
 binary_fits binary.Equivalent o p s h = fitting o p sort.Log sort.Log s h
 binary_fits binary.NotEquivalent o p s h = fitting o p sort.Log sort.Log s h
 binary_fits op o p s h = fitting o p sort.Int sort.Int s h
+
+-- ---- a negative exponent
+
+module _ {functions : List Function} {limit : ℕ} {q : Procedure} {around : Around} {n : NestState} (t : ℕ)
+    (free : first_free q ≤ t) (line : ℕ) (x y : Scalar) (go : Scalar → Step (Unit {0})) where
+  -- one divided by the base or by its square, in variable test
+  over_does : (test : ℕ) (u : Variables) (rest : List CodeLine) (inner : List Brace) → Kin q around n u → (i j : ℤ) →
+      number_at u.ints test ≡ i → int_eq i (pos 0) ≡ false →
+      power_of (integer_of x) (integer_of y) ≡ Some (wrapped (int_div (pos 1) i)) →
+      ((v : Variables) (z : Scalar) → Kin q around n v → Keeps t u v → Shows sort.Int (number_at v.ints t) (text_at v.texts t) z →
+      DoesAt functions limit n v rest inner (go z n)) →
+      DoesAt functions limit n u (flats (computed t (atom.Number (pos 1)) operator.Divide (atom.Int test)) ++ rest) inner
+      ((given line (binary_of binary.Power x y) >>= go) n)
+  over_does test u rest inner k i j value some is next =
+      computed_does t u rest free k (atom.Number (pos 1)) operator.Divide (atom.Int test) _
+      (divides (pos 1) (number_at u.ints test) (ap (λ z. int_eq z (pos 0)) value ∙ some)) (λ v k' keep there.
+      told (value_given line (scalar.Int (wrapped (int_div (pos 1) i))) (binary_of binary.Power x y) go n
+      (ap (integer_or fault.ZeroDivide) is))
+      (next v (scalar.Int (wrapped (int_div (pos 1) i))) k' keep
+      (int_there (number_at v.ints t) (int_div (pos 1) i) (text_at v.texts t)
+      (there ∙ wrapped-int_wrap (int_div (pos 1) (number_at u.ints test)) ∙ ap (λ z. wrapped (int_div (pos 1) z)) value))))
+
+  -- a base that is not 0, by a negative exponent
+  inverse_does : (a b : Atom) (m : ℕ) (u : Variables) (rest : List CodeLine) (inner : List Brace) → Kin q around n u → (test : ℕ) → t ≤ test →
+      FitsSigned w32 (integer_of x) → integer_of y ≡ negsuc m → int_eq (integer_of x) (pos 0) ≡ false →
+      ((v : Variables) → Keeps test u v → value_of v a ≡ integer_of x) → value_of u b ≡ integer_of y →
+      ((v : Variables) (z : Scalar) → Kin q around n v → Keeps t u v → Shows sort.Int (number_at v.ints t) (text_at v.texts t) z →
+      DoesAt functions limit n v rest inner (go z n)) →
+      DoesAt functions limit n u (flats (compute test b operator.Remainder (atom.Number (pos 2))
+      ∷ stmt.IfElse (atom.Int test) (set test (int.Atom a) ∷ []) (compute test a operator.Multiply a ∷ [])
+      ∷ computed t (atom.Number (pos 1)) operator.Divide (atom.Int test)) ++ rest) inner
+      ((given line (binary_of binary.Power x y) >>= go) n)
+  inverse_does a b m u rest inner k test behind fits below some base exponent next =
+      let i = integer_of x in
+      let further : first_free q ≤ test = omega (arith, free, behind) in
+      let first = set test (int.Atom a) ∷ [] in
+      let second = compute test a operator.Multiply a ∷ [] in
+      let last = computed t (atom.Number (pos 1)) operator.Divide (atom.Int test) in
+      compute_does test u (stmt.IfElse (atom.Int test) first second ∷ last) rest further k b operator.Remainder (atom.Number (pos 2))
+      _ (remains (value_of u b) (pos 2) refl) (λ v k' keep there.
+      let parity : number_at v.ints test ≡ int_rem (negsuc m) (pos 2) = there ∙ ap (λ z. int_rem z (pos 2)) (exponent ∙ below) in
+      either_does (atom.Int test) first second last rest
+      (λ h. set_does test v [] (code.Else ∷ (flats second ++ code.Close ∷ (flats last ++ rest))) further k' (int.Atom a)
+      (value_of v a) refl (read_atom v a) (λ v' k'' keep' is.
+      behind_else second (flats last ++ rest)
+      (over_does test v' rest inner k'' i (integer_of y) (is ∙ base v keep) some
+      (ap (power_of i) below ∙ inverse_odd i m some (is_odd m (ap holds (sym parity) ∙ h)))
+      (λ v'' z k''' keep'' sh. next v'' z k''' (keeps_then (keeps_less behind (keeps_then keep keep')) keep'') sh))))
+      (λ h. compute_does test v [] (code.Close ∷ (flats last ++ rest)) further k' a operator.Multiply a _
+      (multiplies (value_of v a) (value_of v a)) (λ v' k'' keep' is.
+      behind_close (flats last ++ rest)
+      (over_does test v' rest inner k'' (i *ℤ i) (integer_of y)
+      (is ∙ ap (λ z. int_wrap w64 (z *ℤ z)) (base v keep) ∙ square_wide i fits) (square_some i some)
+      (ap (power_of i) below ∙ inverse_even i m some (is_even m (ap holds (sym parity) ∙ h)))
+      (λ v'' z k''' keep'' sh. next v'' z k''' (keeps_then (keeps_less behind (keeps_then keep keep')) keep'') sh)))))
 
 -- ---- two operands that stand in atoms
 
@@ -272,40 +343,84 @@ module _ {functions : List Function} {limit : ℕ} {q : Procedure} {around : Aro
       (λ h. fault_given line fault.ZeroDivide (binary_of binary.Divide x y) go n (no_quotient (integer_of x) (integer_of y)
       (ap (λ j. int_eq j (pos 0)) (sym (int_shown right)) ∙ not-false (int_eq (value_of w b) (pos 0)) h)))
 
-  pub binary_does : (op : BinaryOp) (texts : Bool) → emits_binary op ≡ true →
+  power_does : Shows sort.Int (value_of w a) (bytes_of w c) x → Shows sort.Int (value_of w b) (bytes_of w d) y →
+      ((u : Variables) → Keeps (suc (suc t)) w u → value_of u a ≡ value_of w a) →
+      ((u : Variables) → Keeps (suc (suc t)) w u → value_of u b ≡ value_of w b) →
+      ((u : Variables) (z : Scalar) → Kin q around n u → Keeps t w u → Shows sort.Int (number_at u.ints t) (text_at u.texts t) z →
+      DoesAt functions limit n u lines braces (go z n)) →
+      DoesAt functions limit n w (flats (power_lines t (suc (suc t)) a b) ++ lines) braces
+      ((given line (binary_of binary.Power x y) >>= go) n)
+  power_does left right still calm next =
+      let test = suc (suc t) in
+      let i = integer_of x in
+      let j = integer_of y in
+      let behind : t ≤ test = omega arith in
+      let further : first_free q ≤ test = omega (arith, free) in
+      let rest = flats (set t (int.Power a b) ∷ []) ++ code.Close ∷ lines in
+      let result = binary_of binary.Power x y in
+      compute_does test w (stmt.IfElse (atom.Int test) (inverse_lines t test a b) (set t (int.Power a b) ∷ []) ∷ []) lines further kin
+      b operator.Less (atom.Number (pos 0)) _ (is_less (value_of w b) (pos 0)) (λ u k keep there.
+      let tested : number_at u.ints test ≡ truth (int_lt j (pos 0)) = there ∙ ap (λ z. truth (int_lt z (pos 0))) (int_shown right) in
+      let known : (e : Bool) → holds (number_at u.ints test) ≡ e → int_lt j (pos 0) ≡ e =
+      λ e h. sym (truth_holds (int_lt j (pos 0))) ∙ ap holds (sym tested) ∙ h in
+      let base : value_of u a ≡ i = still u keep ∙ int_shown left in
+      let exponent : value_of u b ≡ j = calm u keep ∙ int_shown right in
+      either_does (atom.Int test) (inverse_lines t test a b) (set t (int.Power a b) ∷ []) [] lines
+      (λ h. let m = negative_is j (known true h) in
+      guard_does line fault.ZeroDivide n ((given line result >>= go) n) a
+      (compute test b operator.Remainder (atom.Number (pos 2))
+      ∷ stmt.IfElse (atom.Int test) (set test (int.Atom a) ∷ []) (compute test a operator.Multiply a ∷ [])
+      ∷ computed t (atom.Number (pos 1)) operator.Divide (atom.Int test)) (code.Else ∷ rest) (keep.line ∙ at_line)
+      (λ h'. inverse_does t free line x y go a b m.0 u (code.Else ∷ rest) (Choice ∷ braces) k test behind (int_fits left) m.1
+      (ap (λ z. int_eq z (pos 0)) (sym base) ∙ not-true (int_eq (value_of u a) (pos 0)) h')
+      (λ v keep'. still v (keeps_then keep keep') ∙ int_shown left) exponent (λ v z k' keep' sh.
+      behind_else (set t (int.Power a b) ∷ []) lines (next v z k' (keeps_then (keeps_less behind keep) keep') sh)))
+      (λ h'. fault_given line fault.ZeroDivide result go n
+      (no_inverse i m.0 (ap (λ z. int_eq z (pos 0)) (sym base) ∙ not-false (int_eq (value_of u a) (pos 0)) h') j m.1)))
+      (λ h. let m = natural_is j (known false h) in
+      set_does t u [] (code.Close ∷ lines) free k (int.Power a b) (raised i m.0) refl
+      (read_power u a b ∙ natural_power i j m.0 m.1 (value_of u a) (value_of u b) base exponent left.of.1 right.of.1)
+      (λ v k' keep' is.
+      behind_close lines
+      (told (value_given line (scalar.Int (raised i m.0)) result go n (ap (λ z. integer_or fault.ZeroDivide (power_of i z)) m.1))
+      (next v (scalar.Int (raised i m.0)) k' (keeps_then (keeps_less behind keep) keep')
+      (int_there (number_at v.ints t) (int_pow i m.0) (text_at v.texts t) is))))))
+
+  pub binary_does : ((u : Variables) → Keeps (suc (suc t)) w u → value_of u a ≡ value_of w a) →
+      ((u : Variables) → Keeps (suc (suc t)) w u → value_of u b ≡ value_of w b) → (op : BinaryOp) (texts : Bool) →
       Shows (asks op texts) (value_of w a) (bytes_of w c) x → Shows (asks op texts) (value_of w b) (bytes_of w d) y →
       ((u : Variables) (z : Scalar) → Kin q around n u → Keeps t w u →
       Shows (yields op) (number_at u.ints t) (text_at u.texts t) z →
       DoesAt functions limit n u lines braces (go z n)) →
       DoesAt functions limit n w (flats (binary_lines texts op t a b c d) ++ lines) braces
       ((given line (binary_of op x y) >>= go) n)
-  binary_does binary.Power texts h left right next = cc
-  binary_does binary.Multiply texts h left right next = computes binary.Multiply operator.Multiply
+  binary_does still calm binary.Power texts left right next = power_does left right still calm next
+  binary_does still calm binary.Multiply texts left right next = computes binary.Multiply operator.Multiply
       (λ i j. i *ℤ j) multiplies refl left right next
-  binary_does binary.Divide texts h left right next = divided left right next
-  binary_does binary.Add texts h left right next = computes binary.Add operator.Add (λ i j. i +ℤ j) adds refl left right next
-  binary_does binary.Subtract texts h left right next = computes binary.Subtract operator.Subtract
+  binary_does still calm binary.Divide texts left right next = divided left right next
+  binary_does still calm binary.Add texts left right next = computes binary.Add operator.Add (λ i j. i +ℤ j) adds refl left right next
+  binary_does still calm binary.Subtract texts left right next = computes binary.Subtract operator.Subtract
       (λ i j. i -ℤ j) subtracts refl left right next
-  binary_does binary.Concat texts h left right next =
+  binary_does still calm binary.Concat texts left right next =
       say_does t w [] lines free kin (words.Join c d) (bytes_of w c ++ bytes_of w d) (read_join w c d) (λ u k keep there.
       told (value_given line (scalar.Text (text_of x ++ text_of y)) (binary_of binary.Concat x y) go n refl)
       (next u (scalar.Text (text_of x ++ text_of y)) k keep (record {
         of = refl;
         value = there ∙ ap (λ i. i ++ bytes_of w d) (text_shown left) ∙ ap (λ j. text_of x ++ j) (text_shown right);
       })))
-  binary_does binary.Equal texts h left right next = compares binary.Equal texts refl left right next
-  binary_does binary.NotEqual texts h left right next = compares binary.NotEqual texts refl left right next
-  binary_does binary.Less texts h left right next = compares binary.Less texts refl left right next
-  binary_does binary.LessEqual texts h left right next = compares binary.LessEqual texts refl left right next
-  binary_does binary.Greater texts h left right next = compares binary.Greater texts refl left right next
-  binary_does binary.GreaterEqual texts h left right next = compares binary.GreaterEqual texts refl left right next
-  binary_does binary.And texts h left right next =
+  binary_does still calm binary.Equal texts left right next = compares binary.Equal texts refl left right next
+  binary_does still calm binary.NotEqual texts left right next = compares binary.NotEqual texts refl left right next
+  binary_does still calm binary.Less texts left right next = compares binary.Less texts refl left right next
+  binary_does still calm binary.LessEqual texts left right next = compares binary.LessEqual texts refl left right next
+  binary_does still calm binary.Greater texts left right next = compares binary.Greater texts refl left right next
+  binary_does still calm binary.GreaterEqual texts left right next = compares binary.GreaterEqual texts refl left right next
+  binary_does still calm binary.And texts left right next =
       decides binary.And operator.And (truth_of x && truth_of y) (and_rows (truth_of x) (truth_of y)) refl left right next
-  binary_does binary.Or texts h left right next =
+  binary_does still calm binary.Or texts left right next =
       decides binary.Or operator.Or (truth_of x || truth_of y) (or_rows (truth_of x) (truth_of y)) refl left right next
-  binary_does binary.Equivalent texts h left right next =
+  binary_does still calm binary.Equivalent texts left right next =
       decides binary.Equivalent operator.Equal (is_equivalent (truth_of x) (truth_of y))
       (same_truth (truth_of x) (truth_of y)) refl left right next
-  binary_does binary.NotEquivalent texts h left right next =
+  binary_does still calm binary.NotEquivalent texts left right next =
       decides binary.NotEquivalent operator.NotEqual (not (is_equivalent (truth_of x) (truth_of y)))
       (other_truth (truth_of x) (truth_of y)) refl left right next

@@ -2,15 +2,13 @@
 use Rattle.std.proofs.Common.{◌≡◌, ℕ, ◌<◌, ◌≤◌, Bool, true, false, ◌&&◌, List, ◌∷◌, ◌++◌, Option, Some, None, refl, sym, ap, ◌∙◌, subst, arith, ℤ, pos, length, if◌then◌else◌, nat_le, ◌+◌, []}
 use Rattle.std.specs.Prelude.{negsuc, is_some}
 use Rattle.std.proofs.lemmas.Bool.Decides.{nat_tests}
-use Rattle.a95_base.specs.declared.scalar.Scalar.{Scalar}
 use Rattle.a95_base.specs.Steps.{◌>>=◌}
 use Rattle.array_meaning.specs.Values.{integer_of, size_of}
 use Rattle.array_meaning.specs.State.{Array, Variable, extents_of}
 use Rattle.nest_tree.specs.declared.access.Access.{Access}
-use Rattle.nest_tree.specs.declared.access.Portion.{Portion}
 use Rattle.nest_tree.specs.Plain.{Tree, Cell, Place}
-use Rattle.nest_tree.specs.State.{Memory, on, block_in, memory_of, cells_of, sees}
-use Rattle.nest_tree.specs.Places.{place, portion_of, aimed_by, element_there, subscripts, index_below, cell_of, Aim, aimed}
+use Rattle.nest_tree.specs.State.{on, block_in, memory_of, cells_of, sees}
+use Rattle.nest_tree.specs.Places.{element_there, subscripts, index_below, cell_of, Aim, aimed}
 use Rattle.nest_tree.specs.Elements.{int, element, at_number}
 use Rattle.nest_tree.specs.Sound.{Scope, sort_of, some_serves, sort_of_name, fits_access, fits_portion, has_rank, fits_along, is_block}
 use Rattle.loop_tree.specs.declared.tree.Function.{Function}
@@ -19,10 +17,10 @@ use Rattle.loop_tree.specs.Values.{number_at, text_at}
 use Rattle.loop_laws.specs.At.{value_of}
 use Rattle.nest_emit.specs.Numbers.{array_number}
 use Rattle.nest_emit.specs.Trees.{cell_lines, atom_of, place_atom, place_lines, tree_lines, set}
-use Rattle.nest_emit.specs.Emits.{is_whole, is_computed, emits_access}
+use Rattle.nest_emit.specs.Emits.{emits_access}
 use Rattle.nest_emit.specs.Meets.{DoesAt}
 use Rattle.nest_emit.specs.Kin.{Shows, cells_of as block_cells, held, block_of, cells_held, Stands, StandsIf}
-use Rattle.nest_emit.proofs.Values.{some_is, sort_if_some, exact_shown, array_below, there_is}
+use Rattle.nest_emit.proofs.Values.{some_is, exact_shown, array_below, there_is}
 use Rattle.nest_emit.proofs.Rows.{set_does, read_atom}
 use Rattle.nest_emit.proofs.Indices.{number_below, small_wrap}
 use Rattle.nest_emit.proofs.Runs.{regroup, sees_it, parts}
@@ -30,9 +28,10 @@ use Rattle.nest_emit.proofs.Kin.{keeps_then}
 use Rattle.std.specs.List.{list_all}
 use Rattle.std.proofs.lemmas.Bool.{and_parts}
 use Rattle.a95_base.proofs.Tests.{some_behind}
+use Rattle.nest_tree.proofs.Sorts.{sort_if_some}
 use Rattle.nest_emit.proofs.Places.{place_does}
 use Rattle.nest_tree.specs.Statements.{Caller, applied}
-use Rattle.nest_emit.proofs.Leaves.{cell_does}
+use Rattle.nest_emit.proofs.Leaves.{aiming, cell_does}
 use Rattle.nest_emit.proofs.Evaluates.{Evaluates, gives_served}
 use Rattle.nest_tree.specs.declared.access.Name.{Name}
 use Rattle.nest_tree.specs.declared.unit.Sort.TheVariants as sort
@@ -80,28 +79,6 @@ numbering {A} v (Some a) z f x h = by (index_below (size_of (extents_of a.bounds
         let within = index_is (size_of (extents_of a.bounds)) z k e in
         (record { array = a; there = refl; number = k; index = within.is; inside = within.below }, g)
 
--- the number of the element that an access names
-record Placing (held_array : Option Array) (m : Memory) (turn : List ℕ) (a : Access) (x : Scalar) : Type 0 where
-  array : Array
-  there : held_array ≡ Some array
-  number : ℕ
-  placed : place m.temps.setting turn array.bounds a ≡ Some number
-  is : int (pos number) ≡ x
-
-placing : (v : Variable) (o : Option Array) (m : Memory) (turn : List ℕ) (a : Access) (x : Scalar) → is_whole a.portion ≡ true →
-    on (on o (λ h. on (place m.temps.setting turn h.bounds a) (aimed_by v h (portion_of m.temps.setting a.portion))))
-    (λ aim. Some (at_number aim)) ≡ Some x →
-    Placing o m turn a x
-placing v None m turn a x whole h = cc
-placing v (Some array) m turn a x whole h = by (place m.temps.setting turn array.bounds a) refl a.portion whole h
-  where
-    by : (o : Option ℕ) → place m.temps.setting turn array.bounds a ≡ o → (p : Option Portion) → is_whole p ≡ true →
-        on (on o (aimed_by v array (portion_of m.temps.setting p))) (λ aim. Some (at_number aim)) ≡ Some x →
-        Placing (Some array) m turn a x
-    by None e p w g = cc
-    by (Some k) e None w g = record { array = array; there = refl; number = k; placed = e; is = some_is g }
-    by (Some k) e (Some p) w g = cc
-
 module _ (functions : List Function) (limit : ℕ) (c : Scope) (nests : ℕ) (calls : Caller) (line : ℕ) (turn : List ℕ) where
   pub cell_law : (n : Name) (x : Tree) → Evaluates functions limit c nests calls line turn x →
       Evaluates functions limit c nests calls line turn (Cell n x)
@@ -137,7 +114,6 @@ module _ (functions : List Function) (limit : ℕ) (c : Scope) (nests : ℕ) (ca
         let e = sort_if_some (fits_access c a && is_some (sort_of_name c.own a.name)) sort.Exact s is in
         let fit = and_parts (fits_access c a) (is_some (sort_of_name c.own a.name)) e.0 in
         let r = there_is (sort_of_name c.own a.name) fit.1 in
-        let two = and_parts (list_all (λ d. is_computed d.along) a.dimensions) (is_whole a.portion) emits in
         let q = c.own in
         let array = array_number q a.name in
         let both = and_parts (has_rank q a.name (length a.dimensions) && list_all (λ d. fits_along c d.along) a.dimensions)
@@ -148,19 +124,20 @@ module _ (functions : List Function) (limit : ℕ) (c : Scope) (nests : ℕ) (ca
         let at_place = place_atom q nests t a.dimensions in
         let last = set t (int_row.Atom at_place) ∷ [] in
         sees_it (λ mem. on (aimed mem turn a) (λ aim. Some (at_number aim))) go n (λ x found.
-        let el = placing (block_in m a.name) (block_in m a.name).held m turn a x two.1 found in
+        let aim = aiming (block_in m a.name) (block_in m a.name).held m turn a (λ aim'. Some (at_number aim')) x found in
+        let el = aim.0 in
         let stands : Stands r.0 w.ints array el.array = subst (λ o. StandsIf r.0 w.ints array o) el.there
         (kin.arrays.whole a.name r.0 r.1) in
         let below = number_below el.array.bounds (subscripts m.temps.setting turn a.dimensions) el.number el.placed in
         let few : el.number < 9223372036854775808 = omega (arith, below, stands.small) in
         parts (place_lines q nests t array 0 a.dimensions) last lines
         (place_does c nests turn array (array_below q a.name r.0 r.1) t w (flats last ++ lines) 0 a.dimensions free kin turned
-        two.0 alongs.1
+        emits alongs.1
         el.array.bounds (omega (arith, stands.rank)) stands.bounds el.number el.placed (λ u k keep number.
         set_does t u [] lines free k (int_row.Atom at_place) (value_of u at_place) refl (read_atom u at_place)
         (λ u' k' keep' value.
         next n u' x k' (keeps_then keep keep')
-        (subst (λ y. Shows s (number_at u'.ints t) (text_at u'.texts t) y) el.is
+        (subst (λ y. Shows s (number_at u'.ints t) (text_at u'.texts t) y) (some_is aim.1)
         (subst (λ v. Shows v (number_at u'.ints t) (text_at u'.texts t) (int (pos el.number))) e.1
         (record { of = (refl, small_wrap el.number few); value = value ∙ number ∙ small_wrap el.number few })))))));
   }

@@ -7,20 +7,21 @@ use Rattle.a95_base.specs.declared.scalar.Scalar.{Scalar}
 use Rattle.nest_tree.specs.declared.access.Name.{Name}
 use Rattle.nest_tree.specs.declared.access.Name.TheVariants as name
 use Rattle.nest_tree.specs.declared.unit.Sort.{Sort}
+use Rattle.nest_tree.specs.declared.unit.Sort.TheVariants as sort
 use Rattle.nest_tree.specs.Plain.{Procedure}
 use Rattle.nest_tree.specs.State.{Memory, memory_of, NestState, with_memory, with_written, block_in, set_at, with_kept}
 use Rattle.loop_tree.specs.State.{Block}
 use Rattle.loop_tree.specs.Values.{number_at, text_at, block_at}
 use Rattle.loop_laws.specs.At.{Variables, with_int, with_text, with_index}
 use Rattle.loop_laws.proofs.Numbered.{with_at_other}
-use Rattle.nest_emit.specs.Numbers.{array_number, lower_number, extent_number, first_free, scalar_number, loop_number}
-use Rattle.nest_emit.specs.Kin.{is_text_scalar, held, references, block_of, BoundsAt, StandsIf, Arrays, Around, Kin, AtTurn, Keeps, Stays, Shows, cells_held, SameArrays, SameFor, SameButScalar}
+use Rattle.nest_emit.specs.Numbers.{array_number, lower_number, extent_number, length_number, leaving_number, first_free, scalar_number, loop_number}
+use Rattle.nest_emit.specs.Kin.{is_text_scalar, held, references, block_of, BoundsAt, StandsIf, FittedIf, GrowsIf, Arrays, Around, Kin, AtTurn, Keeps, Stays, Shows, cells_held, SameArrays, SameFor, SameButScalar}
 use Rattle.nest_emit.proofs.Values.{shows_as, scalar_below, array_below}
 
 -- ---- bounds
 
 pub same_bounds : (ints new : List ℤ) (array dim : ℕ) (bounds : List Bounds) →
-    ((x : ℕ) → 16 * array ≤ x → x < 16 * array + 16 → number_at new x ≡ number_at ints x) → dim + length bounds ≤ 7 →
+    ((x : ℕ) → 16 * array ≤ x → x < 16 * array + 15 → number_at new x ≡ number_at ints x) → dim + length bounds ≤ 7 →
     BoundsAt ints array dim bounds → BoundsAt new array dim bounds
 same_bounds ints new array dim [] same few b = tt
 same_bounds ints new array dim (d ∷ bounds) same few b = (
@@ -39,7 +40,18 @@ same_stands s ints new array (Some a) same st = record {
   sorted = st.sorted;
   rank = st.rank;
   narrow = st.narrow;
-  bounds = same_bounds ints new array 0 a.bounds same (omega (arith, st.rank)) st.bounds;
+  bounds = same_bounds ints new array 0 a.bounds (λ x from below. same x from (omega (arith, below))) (omega (arith, st.rank)) st.bounds;
+}
+
+pub same_fitted : (ints new : List ℤ) (array : ℕ) (blank : Scalar) (o : Option Array) →
+    number_at new (length_number array) ≡ number_at ints (length_number array) → FittedIf ints array blank o →
+    FittedIf new array blank o
+same_fitted ints new array blank None same f = tt
+same_fitted ints new array blank (Some a) same f = record {
+  text = f.text;
+  length = same ∙ f.length;
+  small = f.small;
+  elements = f.elements;
 }
 
 -- ---- a state's variables
@@ -52,6 +64,9 @@ same_arrays {q} {m} {v} {w} same a = record {
       ∙ ap (held v.blocks) (one n s) ∙ a.seen n s h;
   whole = λ n s h. same_stands s v.ints w.ints (array_number q n) (block_in m n).held
       (λ x from below. same.ints x (let within = array_below q n s h in omega (arith, within, below))) (a.whole n s h);
+  fitted = λ i h. same_fitted v.ints w.ints i (block_in m (name.Own i)).blank (block_in m (name.Own i)).held
+      (same.ints (length_number i) (let within = array_below q (name.Own i) sort.Text h in omega (arith, within))) (a.fitted i h);
+  grows = a.grows;
   apart = λ n k s r number h g e f. a.apart n k s r number h g (sym (one n s) ∙ e) (sym (one k r) ∙ f);
   below = λ n s number h e. subst (λ made. number < made) (sym same.made) (a.below n s number h (sym (one n s) ∙ e));
 }
@@ -84,7 +99,7 @@ same_kin {q} {around} {n} {v} {w} same k = record {
 
 -- ---- a variable that is free
 
-pub kin_int : {q : Procedure} {around : Around} {n : NestState} {v : Variables} (t : ℕ) (z : ℤ) → first_free q ≤ t →
+pub kin_int : {q : Procedure} {around : Around} {n : NestState} {v : Variables} (t : ℕ) (z : ℤ) → leaving_number q ≤ t →
     Kin q around n v →
     Kin q around n (with_int v t z)
 kin_int {v = v} t z free k = same_kin (record {
@@ -147,6 +162,8 @@ kept_arrays {q} {m} {v} k x a = record {
   seen = λ n s h. a.seen n s h ∙ ap (λ (b : Variable). cells_held s b.held) (sym (kept_block m k x n));
   whole = λ n s h. subst (λ (b : Variable). StandsIf s v.ints (array_number q n) b.held) (sym (kept_block m k x n))
       (a.whole n s h);
+  fitted = a.fitted;
+  grows = λ n s h. subst (λ (b : Variable). GrowsIf s b.blank b.held) (sym (kept_block m k x n)) (a.grows n s h);
   apart = a.apart;
   below = a.below;
 }
@@ -324,3 +341,6 @@ stays_then a b = record { ints = λ x h g. b.ints x h g ∙ a.ints x h g; indice
 
 pub stays_kept : {q : Procedure} {nests t : ℕ} {v w : Variables} → Keeps t v w → Stays q nests t v w
 stays_kept k = record { ints = λ x h g. k.ints x h; indices = λ x h. ap (λ (is : List ℤ). number_at is x) k.indices }
+
+pub stays_less : {q : Procedure} {nests t r : ℕ} {v w : Variables} → t ≤ r → Stays q nests r v w → Stays q nests t v w
+stays_less less s = record { ints = λ x h g. s.ints x (omega (arith, less, h)) g; indices = s.indices }

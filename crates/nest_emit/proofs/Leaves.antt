@@ -1,6 +1,6 @@
 -- The rows of an element that is read and of exact integers leave their values.
 use Rattle.std.proofs.Common.{◌≡◌, ℕ, suc, ◌<◌, ◌≤◌, ◌^◌, Bool, true, false, ◌&&◌, List, [], ◌∷◌, ◌++◌, Option, Some, None, refl, sym, ap, ◌∙◌, subst, arith, ℤ, pos, length, if◌then◌else◌}
-use Rattle.std.specs.Prelude.{Ok, map, slice_index_or, get_or, ◌+ℤ◌, ◌-ℤ◌, ◌*ℤ◌, int_le, int_lt, int_div, cond}
+use Rattle.std.specs.Prelude.{Ok, map, get_or, ◌+ℤ◌, ◌-ℤ◌, ◌*ℤ◌, int_le, int_lt, int_div, cond}
 use Rattle.std.specs.Int.{w64, int_wrap}
 use Rattle.std.specs.Ordering.{int_eq}
 use Rattle.std.proofs.lemmas.List.{get_or-map, length-map}
@@ -8,17 +8,17 @@ use Rattle.a95_base.specs.declared.scalar.Scalar.{Scalar}
 use Rattle.a95_base.specs.declared.scalar.Scalar.TheVariants as scalar
 use Rattle.a95_base.specs.Lists.{Every}
 use Rattle.a95_base.specs.Steps.{Ran}
-use Rattle.array_meaning.specs.Values.{integer_of, text_of}
-use Rattle.array_meaning.specs.State.{Array, Variable}
+use Rattle.array_meaning.specs.Values.{integer_of, text_of, length_of}
+use Rattle.array_meaning.specs.State.{Array, Variable, Substring}
 use Rattle.nest_tree.specs.declared.access.Access.{Access}
-use Rattle.nest_tree.specs.declared.access.Portion.{Portion}
 use Rattle.nest_tree.specs.declared.tree.Exact.{Exact}
 use Rattle.nest_tree.specs.declared.tree.Exact.TheVariants as exact
 use Rattle.nest_tree.specs.declared.unit.Sort.{Sort}
 use Rattle.nest_tree.specs.declared.unit.Sort.TheVariants as sort
 use Rattle.nest_tree.specs.Plain.{Procedure, Tree, Literal, Number, Constant, Fixed, Turn}
-use Rattle.nest_tree.specs.State.{NestState, Memory, Halt, on, block_in}
-use Rattle.nest_tree.specs.Places.{place, portion_of, aimed_by, looked, element_there}
+use Rattle.nest_tree.specs.State.{NestState, Memory, Halt, on}
+use Rattle.nest_tree.specs.Places.{place, portion_of, Aim, aimed_by}
+use Rattle.array_meaning.specs.Sections.{is_part, part_bytes}
 use Rattle.nest_tree.specs.Elements.{int, in_64_bits, exact_of, least_exact}
 use Rattle.nest_tree.specs.Sound.{Scope, sort_of, exact_sort}
 use Rattle.loop_tree.specs.declared.atom.Atom.{Atom}
@@ -38,45 +38,48 @@ use Rattle.loop_laws.specs.At.{Variables, value_of, bytes_of}
 use Rattle.loop_laws.proofs.Within.{int_within as int_there_within, text_within as text_there_within, truth_holds}
 use Rattle.nest_emit.specs.Numbers.{first_free, scalar_number, loop_number}
 use Rattle.nest_emit.specs.Trees.{set, compute, number_for, cell_lines, atom_of, words_of, exact_lines, chosen_lines}
-use Rattle.nest_emit.specs.Emits.{is_whole}
 use Rattle.nest_emit.specs.Meets.{DoesAt}
 use Rattle.nest_emit.specs.Kin.{IsOf, Shows, cells_of as block_cells, held, block_of, Around, Kin, Keeps}
 use Rattle.nest_emit.proofs.Values.{some_is, scalar_below}
-use Rattle.nest_emit.proofs.Rows.{read_int_cell, read_text_cell, adds, subtracts, multiplies, is_less, is_at_most, is_equal, set_does, say_does, compute_does, read_atom}
-use Rattle.nest_emit.proofs.Binary.{divides}
+use Rattle.nest_emit.proofs.Rows.{read_int_cell, read_text_cell, adds, subtracts, multiplies, is_less, is_at_most, is_equal, set_does, say_does, compute_does, read_atom, divides}
 use Rattle.nest_emit.proofs.Indices.{wrap_fits}
 use Rattle.nest_emit.proofs.Runs.{either_does, behind_else, behind_close}
 use Rattle.nest_emit.proofs.Kin.{keeps_then, keeps_less}
 use Rattle.a95_base.proofs.Lists.{each_at}
 
--- ---- an element that is read
+-- ---- an element that an access aims at
 
--- the array, and the number of the element in it
-pub record Element (held : Option Array) (m : Memory) (turn : List ℕ) (a : Access) (blank : Scalar) (x : Scalar) : Type 0 where
+-- the array, the number of the element in it, and that the part of it is one of its text
+pub record Aiming (held : Option Array) (m : Memory) (turn : List ℕ) (a : Access) (blank : Scalar) : Type 0 where
   pub array : Array
   pub there : held ≡ Some array
   pub number : ℕ
   pub placed : place m.temps.setting turn array.bounds a ≡ Some number
-  pub is : x ≡ slice_index_or array.elements number blank
+  pub part : is_part (length_of blank) (portion_of m.temps.setting a.portion) ≡ true
 
-element_by : (v : Variable) (held_array : Option Array) (m : Memory) (turn : List ℕ) (a : Access) (x : Scalar) →
-    is_whole a.portion ≡ true →
-    on (on held_array (λ h. on (place m.temps.setting turn h.bounds a) (aimed_by v h (portion_of m.temps.setting a.portion))))
-    (λ aim. Some (element_there aim)) ≡ Some x →
-    Element held_array m turn a v.blank x
-element_by v None m turn a x whole h = cc
-element_by v (Some array) m turn a x whole h = by (place m.temps.setting turn array.bounds a) refl a.portion whole h
+abbrev pub aim_at : Variable → Array → ℕ → Substring → Aim
+aim_at v array number bytes = record { block = v; array = array; number = number; bytes = bytes }
+
+-- what comes of it
+pub aiming : {A : Type 0} (v : Variable) (o : Option Array) (m : Memory) (turn : List ℕ) (a : Access) (f : Aim → Option A) (x : A) →
+    on (on o (λ h. on (place m.temps.setting turn h.bounds a) (aimed_by v h (portion_of m.temps.setting a.portion)))) f ≡ Some x →
+    (k : Aiming o m turn a v.blank)
+    × (f (aim_at v k.array k.number (part_bytes (portion_of m.temps.setting a.portion))) ≡ Some x)
+aiming v None m turn a f x h = cc
+aiming {A} v (Some array) m turn a f x h = by (place m.temps.setting turn array.bounds a) refl h
   where
-    by : (o : Option ℕ) → place m.temps.setting turn array.bounds a ≡ o → (p : Option Portion) → is_whole p ≡ true →
-        on (on o (aimed_by v array (portion_of m.temps.setting p))) (λ aim. Some (element_there aim)) ≡ Some x →
-        Element (Some array) m turn a v.blank x
-    by None e p w g = cc
-    by (Some k) e None w g = record { array = array; there = refl; number = k; placed = e; is = cc }
-    by (Some k) e (Some p) w g = cc
+    parted : (k : ℕ) → place m.temps.setting turn array.bounds a ≡ Some k →
+        (b : Bool) → is_part (length_of v.blank) (portion_of m.temps.setting a.portion) ≡ b →
+        on (if b then Some (aim_at v array k (part_bytes (portion_of m.temps.setting a.portion))) else None) f ≡ Some x →
+        (k : Aiming (Some array) m turn a v.blank) × (f (aim_at v k.array k.number (part_bytes (portion_of m.temps.setting a.portion))) ≡ Some x)
+    parted k e true is g = (record { array = array; there = refl; number = k; placed = e; part = is }, g)
+    parted k e false is g = cc
 
-pub element_is : (m : Memory) (turn : List ℕ) (a : Access) (x : Scalar) → is_whole a.portion ≡ true → looked m turn a ≡ Some x →
-    Element (block_in m a.name).held m turn a (block_in m a.name).blank x
-element_is m turn a x whole h = element_by (block_in m a.name) (block_in m a.name).held m turn a x whole h
+    by : (o : Option ℕ) → place m.temps.setting turn array.bounds a ≡ o →
+        on (on o (aimed_by v array (portion_of m.temps.setting a.portion))) f ≡ Some x →
+        (k : Aiming (Some array) m turn a v.blank) × (f (aim_at v k.array k.number (part_bytes (portion_of m.temps.setting a.portion))) ≡ Some x)
+    by None e g = cc
+    by (Some k) e g = parted k e (is_part (length_of v.blank) (portion_of m.temps.setting a.portion)) refl g
 
 pub ints_there : (blocks : List Block) (r : Option ℕ) (cells : List ℤ) → held blocks r ≡ Some (Ints cells) →
     ints_at blocks r ≡ Ok cells

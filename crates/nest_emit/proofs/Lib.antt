@@ -1,3 +1,5 @@
+pub mod Texts
+pub mod Integers
 pub mod Runs
 pub mod Values
 pub mod Kin
@@ -9,8 +11,10 @@ pub mod Indices
 pub mod Places
 pub mod Leaves
 pub mod Evaluates
+pub mod Portions
 pub mod Asked
 pub mod Cells
+pub mod Arguments
 pub mod Elementals
 pub mod Trees
 pub mod Acts
@@ -24,3 +28,6 @@ pub mod Arrays
 pub mod Pieces
 pub mod Making
 pub mod Makes
+pub mod Inputs
+pub mod Rebounds
+pub mod Grows

@@ -1,12 +1,14 @@
 -- The lines that make an array leave its bounds in their variables, and its block is new.
 use Rattle.std.proofs.Common.{◌≡◌, ◌≢◌, ◌⊎◌, inl, inr, ℕ, suc, ◌+◌, ◌*◌, ◌<◌, ◌≤◌, Bool, true, false, not, ◌&&◌, List, [], ◌∷◌, ◌++◌, refl, sym, ap, ◌∙◌, arith, ℤ, pos, length, if◌then◌else◌}
-use Rattle.std.specs.Prelude.{Ok, slice_get, unsigned_abs, int_lt, ◌+ℤ◌, ◌-ℤ◌, ◌*ℤ◌}
+use Rattle.std.specs.Prelude.{Ok, negsuc, slice_get, unsigned_abs, int_lt, ◌+ℤ◌, ◌-ℤ◌, ◌*ℤ◌}
 use Rattle.std.specs.List.{list_all}
 use Rattle.std.specs.Int.{w64, int_wrap}
 use Rattle.std.proofs.lemmas.Int.{ints, int_wrap-add_left}
 use Rattle.std.proofs.lemmas.List.{length-map}
+use Rattle.std.proofs.lemmas.Bool.Decides.{nat_tests}
 use Rattle.a95_base.specs.Steps.{Ran}
 use Rattle.std.proofs.lemmas.Bool.{and_parts}
+use Rattle.a95_base.proofs.Tests.{clash}
 use Rattle.array_meaning.specs.Values.{size_of}
 use Rattle.array_meaning.specs.State.{dimension, extent_of, extents_of}
 use Rattle.nest_tree.specs.declared.access.Amount.{Amount}
@@ -15,7 +17,7 @@ use Rattle.nest_tree.specs.declared.statement.Span.{Span}
 use Rattle.nest_tree.specs.declared.unit.Sort.TheVariants as sort
 use Rattle.nest_tree.specs.Plain.{Procedure}
 use Rattle.nest_tree.specs.State.{NestState, Halt}
-use Rattle.nest_tree.specs.Places.{amount, bounds_for}
+use Rattle.nest_tree.specs.Places.{amount, natural, bounds_for}
 use Rattle.nest_tree.specs.Sound.{fits_amount}
 use Rattle.loop_tree.specs.declared.atom.Atom.TheVariants as atom
 use Rattle.loop_tree.specs.declared.atom.Operator.TheVariants as operator
@@ -34,12 +36,12 @@ use Rattle.loop_laws.specs.Rows.{behind_read}
 use Rattle.loop_laws.proofs.Rows.{step_int}
 use Rattle.loop_laws.proofs.Numbered.{with_at_same, with_at_other}
 use Rattle.loop_laws.proofs.Within.{truth_holds}
-use Rattle.nest_emit.specs.Numbers.{array_count, lower_number, extent_number, first_free, scalar_number}
+use Rattle.nest_emit.specs.Numbers.{array_count, lower_number, extent_number, length_number, first_free, scalar_number}
 use Rattle.nest_emit.specs.Trees.{set, compute, amount_atom}
-use Rattle.nest_emit.specs.Statements.{bounds_lines}
+use Rattle.nest_emit.specs.Statements.{bounds_lines, length_lines}
 use Rattle.nest_emit.specs.Meets.{DoesAt}
 use Rattle.nest_emit.specs.Kin.{BoundsAt, Around, Kin}
-use Rattle.nest_emit.proofs.Runs.{parts, row_gives, either_does, behind_else, behind_close}
+use Rattle.nest_emit.proofs.Runs.{parts, row_gives, if_does, either_does, behind_else, behind_close}
 use Rattle.nest_emit.proofs.Values.{served, scalar_below}
 use Rattle.nest_emit.proofs.Rows.{read_atom, read_operation, adds, subtracts, multiplies, is_less}
 use Rattle.nest_emit.proofs.Comparisons.{at_most_is}
@@ -59,23 +61,31 @@ gap_is l u h =
     let whole : u -ℤ l +ℤ pos 1 ≡ pos (above.by + 1) = omega (arith, ints, above.is) in
     whole ∙ ap pos (sym (ap unsigned_abs whole))
 
+no_length : (z : ℤ) → int_lt z (pos 0) ≡ true → natural z ≡ 0
+no_length (pos n) h = absurd (clash (int_lt (pos n) (pos 0)) h (grind (arith, nat_tests)))
+no_length (negsuc n) h = refl
+
+some_length : (z : ℤ) → int_lt z (pos 0) ≡ false → z ≡ pos (natural z)
+some_length (pos n) h = refl
+some_length (negsuc n) h = cc
+
 -- ---- integers that are set one after the other
 
--- all that isn't among the bounds of the array, and stands below number t, is as before
+-- all that isn't among the bounds of the array, and stands below number t, is as before, the length of its texts too
 pub record Moved (array t : ℕ) (before now : List ℤ) : Type 0 where
-  pub same : (x : ℕ) → x < t → (x < 16 * array) ⊎ (16 * array + 16 ≤ x) → number_at now x ≡ number_at before x
+  pub same : (x : ℕ) → x < t → (x < 16 * array) ⊎ (16 * array + 15 ≤ x) → number_at now x ≡ number_at before x
 
 abbrev pub with_ints : Variables → List ℤ → Variables
 with_ints v is = record v { ints = is }
 
-moved_set : (array t : ℕ) (before is : List ℤ) (k : ℕ) (z : ℤ) → ((16 * array ≤ k) × (k < 16 * array + 16)) ⊎ (t ≤ k) →
+moved_set : (array t : ℕ) (before is : List ℤ) (k : ℕ) (z : ℤ) → ((16 * array ≤ k) × (k < 16 * array + 15)) ⊎ (t ≤ k) →
     Moved array t before is →
     Moved array t before (with_at (pos 0) is k z)
 moved_set array t before is k z where_it moved = record {
   same = λ x below side. with_at_other (pos 0) is k x z (apart x below side where_it) ∙ moved.same x below side;
 }
   where
-    apart : (x : ℕ) → x < t → (x < 16 * array) ⊎ (16 * array + 16 ≤ x) → ((16 * array ≤ k) × (k < 16 * array + 16)) ⊎ (t ≤ k) →
+    apart : (x : ℕ) → x < t → (x < 16 * array) ⊎ (16 * array + 15 ≤ x) → ((16 * array ≤ k) × (k < 16 * array + 15)) ⊎ (t ≤ k) →
         k ≢ x
     apart x below (inl low) (inl slot) = omega (arith, low, slot.0)
     apart x below (inr high) (inl slot) = omega (arith, high, slot.1)
@@ -246,3 +256,42 @@ module _ {functions : List Function} {limit : ℕ} {q : Procedure} {around : Aro
       (λ x from below. with_at_other (pos 0) is3 extent x z4 (omega (arith, below))
       ∙ with_at_other (pos 0) is2 extent x z3 (omega (arith, below)) ∙ kept2 x below)
       (bounds_do spans (suc dim) last_few two.1) next))))))
+
+  -- the length of texts, where a negative one is none
+  pub length_do : (a : Amount) → fits_amount q a ≡ true → (is : List ℤ) → Moved array t v.ints is →
+      (more : List Stmt) (lines : List CodeLine) (braces : List Brace) →
+      ((ks : List ℤ) → number_at ks (length_number array) ≡ pos (natural (amount n.cells.temps.setting a)) →
+      ((x : ℕ) → x ≢ length_number array → x ≢ suc t → number_at ks x ≡ number_at is x) →
+      DoesAt functions limit n (with_ints v ks) (flats more ++ lines) braces r) →
+      DoesAt functions limit n (with_ints v is) (flats (length_lines q array (suc t) a ++ more) ++ lines) braces r
+  length_do a fits is moved more lines braces next =
+      let z = amount n.cells.temps.setting a in
+      let len = length_number array in
+      let test = suc t in
+      let none = set len (int.Atom (atom.Number (pos 0))) ∷ [] in
+      let choice = stmt.If (atom.Int test) none ∷ more in
+      let first = value_of (with_ints v is) (amount_atom q a) in
+      let is1 = with_at (pos 0) is len first in
+      let here1 : number_at is1 len ≡ z = with_at_same (pos 0) is len first ∙ amount_now array there t free kin is moved a fits in
+      let z2 = truth (int_lt (number_at is1 len) (pos 0)) in
+      let is2 = with_at (pos 0) is1 test z2 in
+      let apart : test ≢ len = omega (arith, there, free) in
+      let here2 : number_at is2 len ≡ z = with_at_other (pos 0) is1 test len z2 apart ∙ here1 in
+      let tested : number_at is2 test ≡ truth (int_lt z (pos 0)) = with_at_same (pos 0) is1 test z2
+      ∙ ap (λ i. truth (int_lt i (pos 0))) here1 in
+      let known : (b : Bool) → holds (number_at is2 test) ≡ b → int_lt z (pos 0) ≡ b =
+      λ b h. sym (truth_holds (int_lt z (pos 0))) ∙ ap holds (sym tested) ∙ h in
+      let kept : (x : ℕ) → x ≢ len → x ≢ test → number_at is2 x ≡ number_at is x =
+      λ x ne other. with_at_other (pos 0) is1 test x z2 (λ e. other (sym e)) ∙ with_at_other (pos 0) is len x first (λ e. ne (sym e)) in
+      one_set is len (int.Atom (amount_atom q a)) first (read_atom (with_ints v is) (amount_atom q a))
+      (compute test (atom.Int len) operator.Less (atom.Number (pos 0)) ∷ choice) lines braces
+      (one_set is1 test (int.Operation (atom.Int len) operator.Less (atom.Number (pos 0))) z2
+      (read_operation (with_ints v is1) (atom.Int len) operator.Less (atom.Number (pos 0)) z2 (is_less (number_at is1 len) (pos 0)))
+      choice lines braces
+      (if_does (atom.Int test) none more lines
+      (λ h. one_set is2 len (int.Atom (atom.Number (pos 0))) (pos 0) (read_atom (with_ints v is2) (atom.Number (pos 0))) []
+      (code.Close ∷ (flats more ++ lines)) (Choice ∷ braces)
+      (behind_close (flats more ++ lines)
+      (next (with_at (pos 0) is2 len (pos 0)) (with_at_same (pos 0) is2 len (pos 0) ∙ ap pos (sym (no_length z (known true h))))
+      (λ x ne other. with_at_other (pos 0) is2 len x (pos 0) (λ e. ne (sym e)) ∙ kept x ne other))))
+      (λ h. next is2 (here2 ∙ some_length z (known false h)) kept)))

@@ -8,6 +8,7 @@ use Rattle.a95_base.specs.declared.scalar.Scalar.TheVariants as scalar
 use Rattle.a95_base.specs.Integer.{wrapped}
 use Rattle.a95_base.specs.Steps.{Ran}
 use Rattle.a95_base.proofs.Wrapping.{wrapped-int_wrap, wrapped-wrapped}
+use Rattle.nest_tree.proofs.Sorts.{sort_if_some}
 use Rattle.f95_unit.specs.declared.operation.UnaryOp.{UnaryOp}
 use Rattle.f95_unit.specs.declared.operation.UnaryOp.TheVariants as unary
 use Rattle.f95_unit.specs.declared.operation.BinaryOp.{BinaryOp}
@@ -33,7 +34,7 @@ use Rattle.nest_emit.specs.Numbers.{first_free}
 use Rattle.nest_emit.specs.Trees.{unary_lines, compare_line}
 use Rattle.nest_emit.specs.Meets.{DoesAt}
 use Rattle.nest_emit.specs.Kin.{Around, Kin, Keeps, Shows}
-use Rattle.nest_emit.proofs.Values.{sort_if_some, int_shown, truth_shown}
+use Rattle.nest_emit.proofs.Values.{int_shown, truth_shown}
 use Rattle.nest_emit.proofs.Rows.{read_atom, subtracts, is_less, is_at_most, is_equal, is_unequal, set_does, compute_does, computed_does}
 use Rattle.nest_emit.proofs.Comparisons.{less_is, greater_is, le_is, ge_is, ne_is, order_test}
 

@@ -29,8 +29,8 @@ use Rattle.loop_laws.proofs.Numbered.{with_at_same, with_at_other}
 use Rattle.loop_laws.proofs.Rows.{step_int, step_text, step_put_int, step_put_log, step_put_text}
 use Rattle.loop_laws.proofs.Within.{truth_holds}
 use Rattle.nest_emit.specs.Numbers.{first_free, scalar_number, loop_number}
-use Rattle.nest_emit.specs.Trees.{atom_of, words_of, tree_lines}
-use Rattle.nest_emit.specs.Statements.{at_line, keep, put, lines_of, all_lines}
+use Rattle.nest_emit.specs.Trees.{keep, atom_of, words_of, tree_lines}
+use Rattle.nest_emit.specs.Statements.{at_line, put, lines_of, all_lines}
 use Rattle.nest_emit.specs.Emits.{emits_tree}
 use Rattle.nest_emit.specs.Meets.{DoesAt}
 use Rattle.nest_emit.specs.Kin.{Shows, Around, Kin, AtTurn, Stays}
@@ -120,7 +120,7 @@ module _ (functions : List Function) (limit : ℕ) (c : Scope) (nests : ℕ) (ca
 
 -- ---- a value by its sort
 
-stays_int : (q : Procedure) (nests t : ℕ) (w : Variables) (k : ℕ) (s : Sort) → slice_get q.scalars k ≡ Some s → (z : ℤ) →
+pub stays_int : (q : Procedure) (nests t : ℕ) (w : Variables) (k : ℕ) (s : Sort) → slice_get q.scalars k ≡ Some s → (z : ℤ) →
     Stays q nests t w (with_int w (scalar_number q k) z)
 stays_int q nests t w k s is z = record {
   ints = λ x below free. let within = scalar_below q k s is in

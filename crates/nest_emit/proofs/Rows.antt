@@ -1,13 +1,15 @@
 -- Rows that leave a value in a free variable.
-use Rattle.std.proofs.Common.{◌≡◌, ℕ, ◌≤◌, not, List, [], ◌∷◌, ◌++◌, refl, sym, ap, ◌∙◌, subst, ℤ, pos, length}
-use Rattle.std.specs.Prelude.{Ok, ◌+ℤ◌, ◌-ℤ◌, ◌*ℤ◌, int_lt, int_le}
-use Rattle.std.specs.Int.{w64, int_wrap}
+use Rattle.std.proofs.Common.{◌≡◌, ℕ, ◌≤◌, false, not, List, [], ◌∷◌, ◌++◌, refl, sym, ap, ◌∙◌, subst, arith, ℤ, pos, length}
+use Rattle.std.specs.Prelude.{Ok, ◌+ℤ◌, ◌-ℤ◌, ◌*ℤ◌, int_lt, int_le, int_div, int_rem}
+use Rattle.std.specs.Int.{w64, int_wrap, int_bit_and, int_bit_or, int_bit_xor}
+use Rattle.std.specs.Option.{ok_or}
 use Rattle.std.specs.Ordering.{int_eq}
 use Rattle.a95_base.specs.Integer.{wrapped}
-use Rattle.a95_base.specs.Text.{trim, compare_padded}
+use Rattle.a95_base.specs.Text.{trim, compare_padded, adjust_left, adjust_right, char_of}
 use Rattle.a95_base.specs.Steps.{Ran}
 use Rattle.nest_tree.specs.Plain.{Procedure}
 use Rattle.nest_tree.specs.State.{NestState, Halt}
+use Rattle.loop_tree.specs.declared.stuck.StuckState.TheVariants as stuck
 use Rattle.loop_tree.specs.declared.atom.Atom.{Atom}
 use Rattle.loop_tree.specs.declared.atom.Atom.TheVariants as atom
 use Rattle.loop_tree.specs.declared.atom.TextAtom.{TextAtom}
@@ -22,7 +24,7 @@ use Rattle.loop_tree.specs.declared.tree.Stmt.{Stmt}
 use Rattle.loop_tree.specs.declared.tree.Function.{Function}
 use Rattle.loop_tree.specs.Lines.{flats}
 use Rattle.loop_tree.specs.State.{Brace}
-use Rattle.loop_tree.specs.Values.{number_at, text_at, truth, operation, int_value, text_value, order_number, ints_at, texts_at, int_cell, text_cell, and_then, block_at}
+use Rattle.loop_tree.specs.Values.{number_at, text_at, truth, operation, int_value, text_value, order_number, ints_at, texts_at, int_cell, text_cell, and_then, block_at, power}
 use Rattle.loop_laws.specs.At.{Variables, value_of, bytes_of, int_read, text_read, with_int, with_text}
 use Rattle.loop_laws.specs.Rows.{behind_read}
 use Rattle.loop_laws.proofs.Rows.{step_int, step_text}
@@ -50,6 +52,14 @@ pub read_wrap : (v : Variables) (a : Atom) → int_read v (int.Wrap a) ≡ Ok (w
 unfolding int_value
 read_wrap v a = refl
 
+pub read_power : (v : Variables) (a b : Atom) → int_read v (int.Power a b) ≡ power (value_of v a) (value_of v b)
+unfolding int_value
+read_power v a b = refl
+
+pub read_exclusive : (v : Variables) (a b : Atom) → int_read v (int.Xor a b) ≡ Ok (int_bit_xor w64 (value_of v a) (value_of v b))
+unfolding int_value
+read_exclusive v a b = refl
+
 pub read_length : (v : Variables) (t : TextAtom) → int_read v (int.Length t) ≡ Ok (pos (length (bytes_of v t)))
 unfolding int_value
 read_length v t = refl
@@ -75,6 +85,18 @@ read_join v t u = refl
 pub read_trim : (v : Variables) (t : TextAtom) → text_read v (words.Trim t) ≡ Ok (trim (bytes_of v t))
 unfolding text_value
 read_trim v t = refl
+
+pub read_left : (v : Variables) (t : TextAtom) → text_read v (words.Left t) ≡ Ok (adjust_left (bytes_of v t))
+unfolding text_value
+read_left v t = refl
+
+pub read_right : (v : Variables) (t : TextAtom) → text_read v (words.Right t) ≡ Ok (adjust_right (bytes_of v t))
+unfolding text_value
+read_right v t = refl
+
+pub read_char : (v : Variables) (a : Atom) → text_read v (words.Char a) ≡ ok_or (char_of (value_of v a)) stuck.NoByte
+unfolding text_value
+read_char v a = refl
 
 pub read_text_cell : (v : Variables) (n : ℕ) (a : Atom) →
     text_read v (words.Cell n a) ≡ and_then (texts_at v.blocks (block_at v.text_blocks n))
@@ -112,6 +134,22 @@ pub is_unequal : (x y : ℤ) → operation operator.NotEqual x y ≡ Ok (truth (
 unfolding operation
 is_unequal x y = refl
 
+pub divides : (x y : ℤ) → int_eq y (pos 0) ≡ false → operation operator.Divide x y ≡ Ok (int_wrap w64 (int_div x y))
+unfolding operation
+divides x y h = rw h refl
+
+pub remains : (x y : ℤ) → int_eq y (pos 0) ≡ false → operation operator.Remainder x y ≡ Ok (int_rem x y)
+unfolding operation
+remains x y h = rw h refl
+
+pub both_bits : (x y : ℤ) → operation operator.And x y ≡ Ok (int_bit_and w64 x y)
+unfolding operation
+both_bits x y = refl
+
+pub either_bit : (x y : ℤ) → operation operator.Or x y ≡ Ok (int_bit_or w64 x y)
+unfolding operation
+either_bit x y = refl
+
 -- ---- rows
 
 module _ {functions : List Function} {limit : ℕ} {q : Procedure} {around : Around} {n : NestState} {braces : List Brace}
@@ -125,7 +163,7 @@ module _ {functions : List Function} {limit : ℕ} {q : Procedure} {around : Aro
   set_does x z same read next =
       row_gives (step_int t x) more lines read
       (subst (λ (u : Variables). DoesAt functions limit n (with_int u t z) (flats more ++ lines) braces r) (sym same)
-      (next (with_int w t z) (kin_int t z free kin) (keeps_int t w z) (with_at_same (pos 0) w.ints t z)))
+      (next (with_int w t z) (kin_int t z (omega (arith, free)) kin) (keeps_int t w z) (with_at_same (pos 0) w.ints t z)))
 
   pub say_does : (x : TextValue) (bytes : List ℕ) → text_read w x ≡ Ok bytes →
       ((u : Variables) → Kin q around n u → Keeps t w u → text_at u.texts t ≡ bytes →

@@ -1,6 +1,7 @@
 -- The lines of statements do what the statements do: choices, loops that ask a condition, lists.
-use Rattle.std.proofs.Common.{◌≡◌, ℕ, zero, suc, ◌+◌, ◌≤◌, Bool, true, ◌||◌, List, [], ◌∷◌, ◌++◌, Option, Some, None, refl, sym, ap, ◌∙◌, subst, arith}
-use Rattle.std.specs.Prelude.{slice_get}
+use Rattle.std.proofs.Common.{◌≡◌, ℕ, zero, suc, ◌+◌, ◌≤◌, Bool, true, ◌||◌, List, [], ◌∷◌, ◌++◌, Option, Some, None, refl, sym, ap, ◌∙◌, subst, arith, pos}
+use Rattle.std.specs.Prelude.{slice_get, negsuc}
+use Rattle.loop_tree.specs.Values.{number_at}
 use Rattle.a95_base.specs.declared.fault.FaultKind.{FaultKind}
 use Rattle.a95_base.specs.declared.scalar.Scalar.{Scalar}
 use Rattle.a95_base.specs.Steps.{Ran, pure, stop, ◌>>=◌, ◌>>◌}
@@ -13,7 +14,7 @@ use Rattle.nest_tree.specs.declared.unit.Sort.TheVariants as sort
 use Rattle.nest_tree.specs.Plain.{Tree, Statement, Set, Test, If, While, Put, Write, Exit, Cycle, Return, Stop, Statements, no_statement, statement}
 use Rattle.nest_tree.specs.State.{NestState, Memory, memory_of, with_memory, with_written, Halt, By, Step, pick, changes, within, enter, joins, writes, with_kept}
 use Rattle.nest_tree.specs.Statements.{Caller, test_acts, truth as truth_step, rounds, one_turn, only_next, calmly, acts, all_act}
-use Rattle.nest_tree.specs.Sound.{one_deeper, Scope, serves, some_serves, served_by, sets, gives, sort_of}
+use Rattle.nest_tree.specs.Sound.{one_deeper, Scope, some_serves, served_by, sets, gives, sort_of}
 use Rattle.loop_tree.specs.declared.tree.CodeLine.{CodeLine}
 use Rattle.loop_tree.specs.declared.tree.CodeLine.TheVariants as code
 use Rattle.loop_tree.specs.declared.tree.Stmt.{Stmt}
@@ -21,7 +22,7 @@ use Rattle.loop_tree.specs.declared.tree.Stmt.TheVariants as stmt
 use Rattle.loop_tree.specs.declared.tree.Function.{Function}
 use Rattle.loop_tree.specs.Lines.{flats}
 use Rattle.a95_base.specs.Record.{record_text}
-use Rattle.loop_tree.specs.declared.row.ControlRow.TheVariants as control
+use Rattle.nest_tree.proofs.Sorts.{serves_itself}
 use Rattle.loop_tree.specs.State.{Brace, Forever, State}
 use Rattle.loop_tree.specs.Machine.{step, turn as begins}
 use Rattle.loop_tree.specs.Run.{configuration}
@@ -29,19 +30,18 @@ use Rattle.loop_laws.specs.Meets.{Meets}
 use Rattle.loop_laws.proofs.Meets.{turned as turned_step}
 use Rattle.loop_laws.proofs.Braces.{first_forever, step_forever, step_forever_end, end_behind, end_in_branch, end_in_choice, end_in_loop}
 use Rattle.loop_laws.specs.At.{Variables, at}
-use Rattle.loop_laws.proofs.Statements.{with_lines, writes_record, breaks, continues}
-use Rattle.nest_emit.specs.Numbers.{first_free, scalar_number}
-use Rattle.nest_emit.specs.Trees.{unless_fault, atom_of, words_of, tree_lines}
-use Rattle.nest_emit.specs.Statements.{at_line, keep, put, lines_of, all_lines}
-use Rattle.nest_emit.specs.Emits.{emits_tree}
+use Rattle.loop_laws.proofs.Statements.{with_lines, writes_record, continues}
+use Rattle.nest_emit.specs.Numbers.{leaving_number, first_free, scalar_number}
+use Rattle.nest_emit.specs.Trees.{keep, unless_fault, atom_of, words_of, tree_lines}
+use Rattle.nest_emit.specs.Statements.{at_line, put, leave_lines, behind_loop, all_leave_more, lines_of, all_lines}
+use Rattle.nest_emit.specs.Emits.{most_loops, emits_tree}
 use Rattle.nest_emit.specs.Meets.{ending, DoesAt}
 use Rattle.nest_emit.specs.Kin.{Around, Kin, AtTurn, Stays}
 use Rattle.nest_emit.proofs.Runs.{told, regroup, regroup_next, pured, changed, parts, guard_does, either_does, behind_else, behind_close}
 use Rattle.nest_emit.proofs.Values.{some_is, is_true}
 use Rattle.nest_emit.proofs.Acts.{unless_true, unless_false, pick_true, pick_false, joins_is, writes_is, stop_is, entry_first, with_entry, turns_left_is, with_left, turn_goes, turn_is, stop_does, out_of_turns, plus_one}
 use Rattle.nest_emit.proofs.Kin.{stays_all, stays_then, kin_pending, kin_written, kin_counted, kin_around}
-use Rattle.nest_emit.specs.Statements.{control_row}
-use Rattle.nest_emit.proofs.Leaving.{Loop, Out, no_way, out_moved, out_inside, behind_same, returns_same}
+use Rattle.nest_emit.proofs.Leaving.{Loop, Out, no_way, out_moved, out_inside, out_reached, loops_of, reached, leave_does, Behind, behind_then, behind_does, behind_same, returns_same}
 use Rattle.nest_emit.proofs.Performs.{Performs, PerformsAll, Placed, turn_stays, evaluated, value_does, keep_does, put_does}
 
 -- ---- sorts
@@ -66,12 +66,6 @@ written_sort : (o : Option Sort) → ((some_serves o sort.Int || some_serves o s
     Written o
 written_sort None h = cc
 written_sort (Some s) h = record { of = s; is = refl; fits = h }
-
-serves_itself : (s : Sort) → serves s s ≡ true
-serves_itself sort.Exact = refl
-serves_itself sort.Int = refl
-serves_itself sort.Log = refl
-serves_itself sort.Text = refl
 
 -- ---- statements that hold no others
 
@@ -221,18 +215,25 @@ module _ (functions : List Function) (limit : ℕ) (c : Scope) (nests : ℕ) (ca
         pured Returns go n (out.ways.returns n w kin (stays_all c.own nests t w) lines braces);
   }
 
-  pub exit_law : (depth : ℕ) → Performs functions limit c nests calls turn (Some (suc depth)) (Exit 0)
-  exit_law depth = record {
+  pub exit_law : (depth out : ℕ) → out ≤ depth → out ≤ most_loops →
+      Performs functions limit c nests calls turn (Some (suc depth)) (Exit out)
+  exit_law depth o in_it few = record {
     does = λ t free {around} {n} {w} enough kin turned {lines} {braces} go out next.
-        pured (Exits 0) go n (record
-        { by = breaks [] out.ways.loop.closes (out.ways.loop.exits n w kin (stays_all c.own nests t w)).by });
+        pured (Exits o) go n (leave_does nests t (pos o) lines out.ways.loop.place kin out.ways.loop.closes (λ u k stay at.
+        out.ways.loop.exits o in_it few n u k stay at));
   }
 
-  pub cycle_law : (depth : ℕ) → Performs functions limit c nests calls turn (Some (suc depth)) (Cycle 0)
-  cycle_law depth = record {
+  pub cycle_law : (depth out : ℕ) → out ≤ depth → out ≤ most_loops →
+      Performs functions limit c nests calls turn (Some (suc depth)) (Cycle out)
+  cycle_law depth zero in_it few = record {
     does = λ t free {around} {n} {w} enough kin turned {lines} {braces} go out next.
         pured (Cycles 0) go n
         (record { by = continues [] out.ways.loop.closes (out.ways.loop.cycles n w kin (stays_all c.own nests t w)).by });
+  }
+  cycle_law depth (suc o) in_it few = record {
+    does = λ t free {around} {n} {w} enough kin turned {lines} {braces} go out next.
+        pured (Cycles (suc o)) go n (leave_does nests t (negsuc o) lines out.ways.loop.place kin out.ways.loop.closes
+        (λ u k stay at. out.ways.loop.cycles_further o in_it few n u k stay at));
   }
 
 -- ---- loops that ask a condition
@@ -257,7 +258,7 @@ module _ (functions : List Function) (limit : ℕ) (c : Scope) (nests : ℕ) (ca
 
   abbrev round_lines : List Stmt
   round_lines = all_lines c nests t head ++
-      (at_line line ∷ (tree_lines c nests t test ++ (stmt.IfElse (atom_of c nests t test) [] (control_row control.Break ∷ [])
+      (at_line line ∷ (tree_lines c nests t test ++ (stmt.IfElse (atom_of c nests t test) [] (leave_lines c.own (pos 0))
       ∷ all_lines c nests t body)))
 
   abbrev inside : List CodeLine
@@ -276,13 +277,12 @@ module _ (functions : List Function) (limit : ℕ) (c : Scope) (nests : ℕ) (ca
       ((m : NestState) (u : Variables) → Kin c.own (asking k) m u → Stays c.own nests t w u →
       DoesAt functions limit m u (flats (all_lines c nests t body) ++ code.Close ∷ lines) (Forever inside ∷ braces)
       ((x >>= go) m)) →
-      ((m : NestState) (u : Variables) → Kin c.own around m u → Stays c.own nests t w u →
-      DoesAt functions limit m u lines braces (go Next m)) →
+      Behind (loops_of depth) functions limit c around nests t w lines braces go →
       DoesAt functions limit n w inside (Forever inside ∷ braces)
       (((heads >> (condition >>= (λ b. pick b x (pure Next)))) >>= go) n)
   round_does x k few n w kin turned holds_then done =
       let a = atom_of c nests t test in
-      let break_row = control_row control.Break ∷ [] in
+      let break_row = leave_lines c.own (pos 0) in
       let body_lines = all_lines c nests t body in
       let rest = stmt.IfElse a [] break_row ∷ body_lines in
       let asks = condition >>= (λ b. pick b x (pure Next)) in
@@ -304,10 +304,11 @@ module _ (functions : List Function) (limit : ℕ) (c : Scope) (nests : ℕ) (ca
       (told (pick_true (truth_of z) x (pure Next) go m' (is_true sh h))
       (holds_then m' u' k'' (stays_then stay stay'))))
       (λ h. told (pick_false (truth_of z) x (pure Next) go m' (is_true sh h)) (pured Next go m'
-      (record {
-        by = breaks [] (end_in_choice (end_behind body_lines (end_in_loop lines (Forever inside) braces refl)))
-            (done m' u' (kin_around (omega (arith, few, k''.few)) (omega (arith, k''.budget)) k'') (stays_then stay stay')).by;
-      }))))))))))))
+      (leave_does nests t (pos 0) (code.Close ∷ (flats body_lines ++ code.Close ∷ lines))
+      (record { lines = code.Close ∷ lines; braces = Forever inside ∷ braces })
+      (kin_around (omega (arith, few, k''.few)) (omega (arith, k''.budget)) k'')
+      (end_in_choice (end_behind body_lines (end_in_loop lines (Forever inside) braces refl)))
+      (λ u2 k2 stay2 value. done.done m' u2 k2 (stays_then (stays_then stay stay') stay2) value)))))))))))))
     where
       limit_more : limit ≤ around.limit + 1
       limit_more = omega (arith, enough)
@@ -318,8 +319,7 @@ module _ (functions : List Function) (limit : ℕ) (c : Scope) (nests : ℕ) (ca
       Out depth functions limit c around nests t u lines braces go →
       ((n : NestState) (w : Variables) → Kin c.own (most_left k) n w → Stays c.own nests t u w →
       DoesAt functions limit n w (code.Close ∷ lines) (Forever inside ∷ braces) ((more >>= go) n)) →
-      ((n : NestState) (w : Variables) → Kin c.own around n w → Stays c.own nests t u w →
-      DoesAt functions limit n w lines braces (go Next n)) →
+      Behind (loops_of depth) functions limit c around nests t u lines braces go →
       DoesAt functions limit m u (flats (all_lines c nests t body) ++ code.Close ∷ lines) (Forever inside ∷ braces)
       ((one_turn bodies more >>= go) m)
   turn_does more k few m u kin turned out again done =
@@ -329,13 +329,22 @@ module _ (functions : List Function) (limit : ℕ) (c : Scope) (nests : ℕ) (ca
       wider : (n : NestState) (w : Variables) → Kin c.own (most_left k) n w → Kin c.own around n w
       wider n w kin' = kin_around (omega (arith, few, kin'.few)) kin'.budget kin'
 
-      loop : Loop functions limit c (most_left k) nests t u (code.Close ∷ lines) (Forever inside ∷ braces)
+      left_by : (out : ℕ) → out ≤ loops_of depth → out ≤ most_loops → (n : NestState) (w : Variables) →
+          Kin c.own (most_left k) n w → Stays c.own nests t u w → number_at w.ints (leaving_number c.own) ≡ pos out →
+          DoesAt functions limit n w lines braces ((behind_turn (Exits out) more >>= go) n)
+      left_by zero in_it small n w kin' stay value = pured Next go n (done.done n w (wider n w kin') stay value)
+      left_by (suc o) in_it small n w kin' stay value = pured (Exits o) go n
+          (done.exits o in_it small n w (wider n w kin') stay value)
+
+      loop : Loop (loops_of depth) functions limit c (most_left k) nests t u (code.Close ∷ lines) (Forever inside ∷ braces)
           (λ flow. behind_turn flow more >>= go)
       loop = record {
         place = record { lines = code.Close ∷ lines; braces = Forever inside ∷ braces };
         closes = end_in_loop lines (Forever inside) braces refl;
-        exits = λ n w kin' stay. pured Next go n (done n w (wider n w kin') stay);
+        exits = left_by;
         cycles = again;
+        cycles_further = λ out in_it small n w kin' stay value. pured (Cycles out) go n
+            (done.cycles out in_it small n w (wider n w kin') stay value);
       }
 
       by : (left : ℕ) → m.cells.plain.left ≡ left →
@@ -355,8 +364,7 @@ module _ (functions : List Function) (limit : ℕ) (c : Scope) (nests : ℕ) (ca
       ((m : NestState) (u : Variables) → Kin c.own (asking k) m u → Stays c.own nests t w u →
       DoesAt functions limit m u (flats (all_lines c nests t body) ++ code.Close ∷ lines) (Forever inside ∷ braces)
       ((x >>= go) m)) →
-      ((m : NestState) (u : Variables) → Kin c.own around m u → Stays c.own nests t w u →
-      DoesAt functions limit m u lines braces (go Next m)) →
+      Behind (loops_of depth) functions limit c around nests t w lines braces go →
       Meets functions (configuration n.entries n.cells.plain.written s)
       (ending limit (((enter >> (heads >> (condition >>= (λ b. pick b x (pure Next))))) >>= go) n))
   begun x k few n w kin turned s next holds_then done =
@@ -374,8 +382,7 @@ module _ (functions : List Function) (limit : ℕ) (c : Scope) (nests : ℕ) (ca
       AtTurn nests c.loops turn w → (s : State) →
       step functions s ≡ begins (at w inside (Forever inside ∷ braces)) →
       Out depth functions limit c around nests t w lines braces go →
-      ((m : NestState) (u : Variables) → Kin c.own around m u → Stays c.own nests t w u →
-      DoesAt functions limit m u lines braces (go Next m)) →
+      Behind (loops_of depth) functions limit c around nests t w lines braces go →
       Meets functions (configuration n.entries n.cells.plain.written s) (ending limit ((rounds k heads condition bodies >>= go) n))
   unfolding rounds
   rounds_do zero few n w kin turned s next out done =
@@ -389,29 +396,35 @@ module _ (functions : List Function) (limit : ℕ) (c : Scope) (nests : ℕ) (ca
         by = rounds_do j (omega (arith, few)) n' w' k' (turn_stays placed (stays_then stay stay') turned)
             (at w' (code.Close ∷ lines) (Forever inside ∷ braces)) (step_forever_end inside lines braces functions w')
             (out_moved (λ place closes. closes) (stays_then stay stay') (λ flow m' h. refl) (λ m' u' k''. k'') depth out)
-            (λ m' u' k'' stay''. done m' u' k'' (stays_then (stays_then stay stay') stay''));
-      }) (λ n' w' k' stay'. done n' w' k' (stays_then stay stay'))) done
+            (behind_then (stays_then stay stay') done);
+      }) (behind_then stay done)) done
 
 module _ (functions : List Function) (limit : ℕ) (c : Scope) (nests : ℕ) (calls : Caller) (turn : List ℕ) (depth : Option ℕ)
     (placed : Placed c nests) where
   pub while_law : (line : ℕ) (head : Statements) (test : Tree) (body : Statements) → emits_tree test ≡ true →
       gives c test sort.Log ≡ true →
-      PerformsAll functions limit c nests calls turn None head →
-      PerformsAll functions limit c nests calls turn (one_deeper depth) body →
+      PerformsAll functions limit c nests calls turn None head → (further : Bool) → all_leave_more 1 body ≡ further →
+      PerformsAll functions limit c nests calls turn (one_deeper (reached further depth)) body →
       Performs functions limit c nests calls turn depth (While line head test body)
-  while_law line head test body emits fits head_law body_law = record {
+  while_law line head test body emits fits head_law further same body_law = record {
     does = λ t free {around} {n} {w} enough kin turned {lines} {braces} go out next.
         let heads = calmly (all_act c.unit.constants calls turn head) in
         let condition = truth_step c.unit.constants calls line turn test in
         let bodies = all_act c.unit.constants calls turn body in
-        let whole = round_lines functions limit c nests calls turn depth placed line head test body emits fits head_law body_law t
-        free around enough lines braces go in
-        let inner = flats whole ++ code.Close ∷ lines in
-        told (turns_left_is (λ k. rounds k heads condition bodies) go n) (record {
-          by = with_lines (first_forever whole [] lines)
-              (rounds_do functions limit c nests calls turn depth placed line head test body emits fits head_law body_law t free
-              around enough lines braces go
+        let rest = behind_loop c.own t further in
+        let behind = flats rest ++ lines in
+        let whole = round_lines functions limit c nests calls turn (reached further depth) placed line head test body emits fits
+        head_law body_law t free around enough behind braces go in
+        let inner = flats whole ++ code.Close ∷ behind in
+        told (turns_left_is (λ k. rounds k heads condition bodies) go n)
+        (subst (λ b. DoesAt functions limit n w (flats (stmt.Forever whole ∷ behind_loop c.own t b) ++ lines) braces
+        ((rounds n.cells.plain.left heads condition bodies >>= go) n)) (sym same) (record {
+          by = with_lines (first_forever whole rest lines)
+              (rounds_do functions limit c nests calls turn (reached further depth) placed line head test body emits fits head_law
+              body_law t free around enough behind braces go
               n.cells.plain.left kin.few n w (kin_around (omega arith) kin.budget kin) turned (at w (code.Forever ∷ inner) braces)
-              (step_forever inner braces functions w) out next);
-        });
+              (step_forever inner braces functions w)
+              (out_reached further depth (λ place closes. end_behind rest closes) out)
+              (behind_does functions limit c around nests t free w lines braces go further depth out next));
+        }));
   }

@@ -1,5 +1,5 @@
 -- Sorts, and what stands for a value of one.
-use Rattle.std.proofs.Common.{◌≡◌, ◌⊎◌, inl, inr, ℕ, ◌<◌, ◌≤◌, Bool, true, false, List, Option, Some, None, refl, sym, ap, ◌∙◌, subst, arith, ℤ, pos, length}
+use Rattle.std.proofs.Common.{◌≡◌, ◌⊎◌, inl, inr, ℕ, ◌<◌, ◌≤◌, Bool, true, List, Option, Some, None, refl, sym, ap, ◌∙◌, subst, arith, ℤ, pos, length}
 use Rattle.std.specs.Prelude.{FitsSigned, negsuc, slice_get, get_or, is_some}
 use Rattle.std.proofs.lemmas.Option.{slice_get_cases}
 use Rattle.a95_base.specs.declared.scalar.Scalar.{Scalar}
@@ -9,6 +9,7 @@ use Rattle.a95_base.proofs.Wrapping.{wrapped_fits, fits_wrapped}
 use Rattle.std.proofs.lemmas.Int.{ints, int_wrap_fits}
 use Rattle.std.specs.Int.{w32, w64, int_wrap}
 use Rattle.std.proofs.lemmas.Bool.Decides.{nat_tests}
+use Rattle.nest_tree.proofs.Sorts.{sort_if_some}
 use Rattle.array_meaning.specs.Values.{integer_of, truth_of, text_of}
 use Rattle.nest_tree.specs.declared.access.Name.{Name}
 use Rattle.nest_tree.specs.declared.access.Name.TheVariants as name
@@ -16,10 +17,10 @@ use Rattle.nest_tree.specs.declared.unit.Sort.{Sort}
 use Rattle.nest_tree.specs.declared.unit.Sort.TheVariants as sort
 use Rattle.nest_tree.specs.declared.unit.Declared.{Declared}
 use Rattle.nest_tree.specs.Plain.{Procedure}
-use Rattle.nest_tree.specs.Sound.{serves, some_serves, sort_if, sort_of_name, sort_of_type, of_declared, sort_of_scalar, sort_of_some, fits_32_bits}
+use Rattle.nest_tree.specs.Sound.{serves, some_serves, sort_of_name, sort_of_type, of_declared, sort_of_scalar, sort_of_some, fits_32_bits}
 use Rattle.loop_tree.specs.Values.{truth, holds}
 use Rattle.loop_laws.proofs.Within.{truth_holds}
-use Rattle.nest_emit.specs.Numbers.{array_number, array_count, first_free, scalar_number}
+use Rattle.nest_emit.specs.Numbers.{array_number, array_count, leaving_number, scalar_number}
 use Rattle.nest_emit.specs.Trees.{number_for, reference_to}
 use Rattle.nest_emit.specs.Kin.{IsOf, StandsFor, Shows, block_of}
 use Rattle.loop_laws.specs.At.{Variables, number_of}
@@ -30,10 +31,6 @@ there_is (Some a) h = (a, refl)
 
 pub some_is : {A : Type 0} {a b : A} → Some a ≡ Some b → a ≡ b
 some_is h = cc
-
-pub sort_if_some : (b : Bool) (s r : Sort) → sort_if b s ≡ Some r → (b ≡ true) × (s ≡ r)
-sort_if_some true s r h = (refl, cc)
-sort_if_some false s r h = cc
 
 -- a sort that is there
 pub record Served (o : Option Sort) (asked : Sort) : Type 0 where
@@ -49,7 +46,7 @@ served (Some s) asked h = record { sort = s; is = refl; serves_it = h }
 fits_64 : (z : ℤ) → FitsSigned w32 z → FitsSigned w64 z
 fits_64 z f = omega (arith, ints, f)
 
-wide : (z : ℤ) → wrapped z ≡ z → int_wrap w64 z ≡ z
+pub wide : (z : ℤ) → wrapped z ≡ z → int_wrap w64 z ≡ z
 wide z e = int_wrap_fits w64 z (fits_64 z (subst (λ y. FitsSigned w32 y) e (fits_wrapped z)))
 
 pub shows_serves : (s asked : Sort) → serves s asked ≡ true → (z : ℤ) (bytes : List ℕ) (x : Scalar) → Shows s z bytes x →
@@ -83,6 +80,9 @@ exact_shown {z} {bytes} {x} sh = sh.value ∙ ap number_for sh.of.0
 pub int_shown : {z : ℤ} {bytes : List ℕ} {x : Scalar} → Shows sort.Int z bytes x → z ≡ integer_of x
 int_shown {z} {bytes} {x} sh = sh.value ∙ ap number_for sh.of.0
 
+pub int_fits : {z : ℤ} {bytes : List ℕ} {x : Scalar} → Shows sort.Int z bytes x → FitsSigned w32 (integer_of x)
+int_fits {z} {bytes} {x} sh = subst (λ y. FitsSigned w32 y) sh.of.1 (fits_wrapped (integer_of x))
+
 pub truth_shown : {z : ℤ} {bytes : List ℕ} {x : Scalar} → Shows sort.Log z bytes x → z ≡ truth (truth_of x)
 truth_shown {z} {bytes} {x} sh = sh.value ∙ ap number_for sh.of
 
@@ -106,7 +106,7 @@ is_within A xs k x h = by (slice_get_cases xs k).1
     by (inl there) = there.1
     by (inr past) = past_none xs k x h past.1
 
-pub scalar_below : (q : Procedure) (k : ℕ) (s : Sort) → slice_get q.scalars k ≡ Some s → scalar_number q k < first_free q
+pub scalar_below : (q : Procedure) (k : ℕ) (s : Sort) → slice_get q.scalars k ≡ Some s → scalar_number q k < leaving_number q
 scalar_below q k s h = let within : k < length q.scalars = is_within Sort q.scalars k s h in omega (arith, within)
 
 declared_below : (q : Procedure) (n : ℕ) (s : Sort) (o : Option Declared) → slice_get q.variables n ≡ o →

@@ -1,5 +1,5 @@
 -- The program of a unit does what the unit does.
-use Rattle.std.proofs.Common.{◌≡◌, ℕ, zero, suc, ◌≤◌, Bool, true, false, ◌&&◌, List, [], ◌∷◌, Option, Some, None, refl, sym, ap, ◌∙◌, subst, arith, pos, length}
+use Rattle.std.proofs.Common.{◌≡◌, ℕ, zero, suc, ◌<◌, ◌≤◌, Bool, true, false, ◌&&◌, nat_lt, List, [], ◌∷◌, Option, Some, None, refl, sym, ap, ◌∙◌, subst, arith, pos, length}
 use Rattle.std.specs.Prelude.{Result, Ok, Err, slice_get, slice_index_or, map, nat_le, nat_eq, is_some}
 use Rattle.std.specs.List.{list_all}
 use Rattle.std.proofs.lemmas.Bool.Decides.{nat_tests}
@@ -39,22 +39,26 @@ use Rattle.loop_laws.proofs.Meets.{told_as, leaves}
 use Rattle.loop_laws.proofs.Follows.{follows_both_ways}
 use Rattle.loop_laws.proofs.Statements.{first, ends_last}
 use Rattle.nest_emit.specs.Numbers.{array_number, first_free}
-use Rattle.nest_emit.specs.Statements.{scope_of, program_of}
-use Rattle.nest_emit.specs.Emits.{is_text, emits_tree, emits_statement, emits_all, Emits}
+use Rattle.nest_emit.specs.Statements.{leaves_more, all_leave_more, scope_of, program_of}
+use Rattle.nest_emit.specs.Emits.{emits_tree, emits_statement, emits_all, Emits}
 use Rattle.nest_emit.specs.EmitLaws.{ProgramSimulates, ProgramFollows}
 use Rattle.nest_emit.specs.Meets.{outcome_for, run_with, ending}
-use Rattle.nest_emit.specs.Kin.{is_text_scalar, Shows, held, cells_held, block_of, StandsIf, Kin}
+use Rattle.nest_emit.specs.Kin.{is_text, is_text_scalar, FittedIf, GrowsIf, Shows, held, cells_held, block_of, StandsIf, Kin}
 use Rattle.nest_emit.proofs.Runs.{told}
 use Rattle.nest_emit.proofs.Values.{some_is}
 use Rattle.nest_emit.proofs.Indices.{small_wrap}
 use Rattle.a95_base.proofs.Wrapping.{wrapped_small}
 use Rattle.std.proofs.lemmas.List.{length-map}
-use Rattle.std.proofs.lemmas.Bool.{and_parts}
+use Rattle.std.proofs.lemmas.Bool.{and_parts, or_parts}
 use Rattle.array_meaning.specs.Expressions.{blank_of_type}
 use Rattle.f95_unit.specs.declared.unit.DeclaredType.TheVariants as declared
+use Rattle.nest_emit.proofs.Leaving.{reached}
 use Rattle.nest_emit.proofs.Performs.{Performs, PerformsAll, Placed}
 use Rattle.nest_emit.proofs.Pieces.{piece_law, free_law, store_cell_law}
 use Rattle.nest_emit.proofs.Makes.{make_law}
+use Rattle.nest_emit.proofs.Inputs.{take_law, skip_law}
+use Rattle.nest_emit.proofs.Rebounds.{rebound_law}
+use Rattle.nest_emit.proofs.Grows.{grow_law}
 use Rattle.nest_emit.proofs.Nests.{nest_law}
 use Rattle.nest_emit.proofs.Statements.{set_law, test_law, put_law, write_law, stop_law, none_law, first_law, if_law, return_law, exit_law, cycle_law, while_law}
 
@@ -66,6 +70,58 @@ placed_inside c nests placed frame fits =
     let two = and_parts (nat_le 1 (length frame.extents)) (nat_le (length frame.extents) 7) fits.ranked in
     let few : length frame.extents ≤ 7 = grind (arith, nat_tests, two.1) in
     record { few = few; nested = omega (arith, few); ranks = placed.ranks }
+
+-- ---- loops that are left: what leaves no loop further out fits where there is none
+
+nothing_below : (out : ℕ) → nat_lt out 0 ≡ true → ⊥
+nothing_below out h = let less : out < 0 = grind (arith, nat_tests, h) in omega (arith, less)
+
+nearer : (out k : ℕ) → nat_le k out ≡ false → nat_lt out k ≡ true
+nearer out k h = grind (arith, nat_tests)
+
+mutual
+  statement_nearer : (s : Statement) (c : Scope) (k e : ℕ) → leaves_more k s ≡ false → FitsStatement c (Some e) s →
+      FitsStatement c (Some k) s
+  statement_nearer (Set line i x) c k e h f = f
+  statement_nearer (Test line kind x) c k e h f = f
+  statement_nearer (Store p) c k e h f = f
+  statement_nearer (StoreCell line n x y) c k e h f = f
+  statement_nearer (Make line b) c k e h f = f
+  statement_nearer (Grow line n a) c k e h f = f
+  statement_nearer (Rebound line n spans) c k e h f = f
+  statement_nearer (Free line n) c k e h f = f
+  statement_nearer (MakeList line l a) c k e h f = f
+  statement_nearer (StoreEntry line l x y) c k e h f = f
+  statement_nearer (FreeList line l) c k e h f = f
+  statement_nearer (Nest own frame headers checks body) c k e h f = f
+  statement_nearer (If line test yes_part no_part) c k e h f =
+      let two = or_parts (all_leave_more k yes_part) (all_leave_more k no_part) h in
+      (f.0, all_nearer yes_part c k e two.0 f.1, all_nearer no_part c k e two.1 f.2)
+  statement_nearer (While line head test body) c k e h f = (f.0, f.1, all_nearer body c (suc k) (suc e) h f.2)
+  statement_nearer (Call line p passed) c k e h f = f
+  statement_nearer (Put line x) c k e h f = f
+  statement_nearer Write c k e h f = f
+  statement_nearer (Take line i b) c k e h f = f
+  statement_nearer (Skip line b) c k e h f = f
+  statement_nearer (Exit out) c k e h f = nearer out k h
+  statement_nearer (Cycle out) c k e h f = nearer out k h
+  statement_nearer Return c k e h f = refl
+  statement_nearer Stop c k e h f = f
+
+  all_nearer : (body : Statements) (c : Scope) (k e : ℕ) → all_leave_more k body ≡ false → FitsAll c (Some e) body →
+      FitsAll c (Some k) body
+  all_nearer no_statement c k e h f = f
+  all_nearer (statement s more) c k e h f =
+      let two = or_parts (leaves_more k s) (all_leave_more k more) h in
+      (statement_nearer s c k e two.0 f.0, all_nearer more c k e two.1 f.1)
+
+fits_reached : (c : Scope) (body : Statements) (further : Bool) → all_leave_more 1 body ≡ further → (depth : Option ℕ) →
+    FitsAll c (one_deeper depth) body → FitsAll c (one_deeper (reached further depth)) body
+fits_reached c body true same depth fit = fit
+fits_reached c body false same None fit = fit
+fits_reached c body false same (Some out) fit = all_nearer body c 1 (suc out) same fit
+
+-- ---- each statement
 
 mutual
   statement_does : (s : Statement) (functions : List Function) (limit : ℕ) (c : Scope) (nests : ℕ) (calls : Caller)
@@ -84,8 +140,10 @@ mutual
       nests calls turn depth line n x y e f
   statement_does (Make line b) functions limit c nests calls turn placed depth e f = make_law functions limit c nests calls turn
       depth placed line b e f
-  statement_does (Grow line n a) functions limit c nests calls turn placed depth e f = cc
-  statement_does (Rebound line n spans) functions limit c nests calls turn placed depth e f = cc
+  statement_does (Grow line n a) functions limit c nests calls turn placed depth e f = grow_law functions limit c nests calls turn
+      depth line n a e f
+  statement_does (Rebound line n spans) functions limit c nests calls turn placed depth e f = rebound_law functions limit c nests
+      calls turn depth placed line n spans e f
   statement_does (Free line n) functions limit c nests calls turn placed depth e f = free_law functions limit c nests calls turn
       depth line n f
   statement_does (MakeList line l a) functions limit c nests calls turn placed depth e f = cc
@@ -106,25 +164,27 @@ mutual
   statement_does (While line head test body) functions limit c nests calls turn placed depth e f =
       let two = and_parts (emits_all c.own head && emits_tree test) (emits_all c.own body) e in
       let one = and_parts (emits_all c.own head) (emits_tree test) two.0 in
+      let further = all_leave_more 1 body in
       while_law functions limit c nests calls turn depth placed line head test body one.1 f.1
-      (all_do head functions limit c nests calls turn placed None one.0 f.0)
-      (all_do body functions limit c nests calls turn placed (one_deeper depth) two.1 f.2)
+      (all_do head functions limit c nests calls turn placed None one.0 f.0) further refl
+      (all_do body functions limit c nests calls turn placed (one_deeper (reached further depth)) two.1
+      (fits_reached c body further refl depth f.2))
   statement_does (Call line p passed) functions limit c nests calls turn placed depth e f = cc
   statement_does (Put line x) functions limit c nests calls turn placed depth e f = put_law functions limit c nests calls turn
       depth line x e f
   statement_does Write functions limit c nests calls turn placed depth e f = write_law functions limit c nests calls turn depth
-  statement_does (Take line k b) functions limit c nests calls turn placed depth e f = cc
-  statement_does (Skip line b) functions limit c nests calls turn placed depth e f = cc
-  statement_does (Exit zero) functions limit c nests calls turn placed None e f = cc
-  statement_does (Exit zero) functions limit c nests calls turn placed (Some zero) e f = cc
-  statement_does (Exit zero) functions limit c nests calls turn placed (Some (suc depth)) e f = exit_law functions limit c nests
-      calls turn None depth
-  statement_does (Exit (suc out)) functions limit c nests calls turn placed depth e f = cc
-  statement_does (Cycle zero) functions limit c nests calls turn placed None e f = cc
-  statement_does (Cycle zero) functions limit c nests calls turn placed (Some zero) e f = cc
-  statement_does (Cycle zero) functions limit c nests calls turn placed (Some (suc depth)) e f = cycle_law functions limit c nests
-      calls turn None depth
-  statement_does (Cycle (suc out)) functions limit c nests calls turn placed depth e f = cc
+  statement_does (Take line k b) functions limit c nests calls turn placed depth e f = take_law functions limit c nests calls turn
+      depth line k b f
+  statement_does (Skip line b) functions limit c nests calls turn placed depth e f = skip_law functions limit c nests calls turn
+      depth line b f
+  statement_does (Exit out) functions limit c nests calls turn placed None e f = cc
+  statement_does (Exit out) functions limit c nests calls turn placed (Some zero) e f = absurd (nothing_below out f)
+  statement_does (Exit out) functions limit c nests calls turn placed (Some (suc depth)) e f = exit_law functions limit c nests
+      calls turn None depth out (grind (arith, nat_tests, f)) (grind (arith, nat_tests, e))
+  statement_does (Cycle out) functions limit c nests calls turn placed None e f = cc
+  statement_does (Cycle out) functions limit c nests calls turn placed (Some zero) e f = absurd (nothing_below out f)
+  statement_does (Cycle out) functions limit c nests calls turn placed (Some (suc depth)) e f = cycle_law functions limit c nests
+      calls turn None depth out (grind (arith, nat_tests, f)) (grind (arith, nat_tests, e))
   statement_does Return functions limit c nests calls turn placed None e f = cc
   statement_does Return functions limit c nests calls turn placed (Some depth) e f = return_law functions limit c nests calls turn
       None depth
@@ -232,6 +292,10 @@ kin_start unit input turns = record {
     whole = λ n s h. subst (λ o. StandsIf s [] (array_number unit.main n) o) (sym (no_array_named unit.main n)) tt;
     many = length-map unit.main.variables (λ (d : Declared). start_of [] d.of d.role);
     plain = λ n s h g. plain_start unit.main n s h g;
+    fitted = λ i h. subst (λ o. FittedIf [] i (block_in (memory_at_start [] unit.main) (name.Own i)).blank o)
+        (sym (no_array_named unit.main (name.Own i))) tt;
+    grows = λ n s h. subst (λ o. GrowsIf s (block_in (memory_at_start [] unit.main) n).blank o)
+        (sym (no_array_named unit.main n)) tt;
     apart = λ n k s r number h g e f. none_some (sym (no_reference s (array_number unit.main n) input) ∙ e);
     below = λ n s number h e. none_some (sym (no_reference s (array_number unit.main n) input) ∙ e);
   };

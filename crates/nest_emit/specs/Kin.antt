@@ -5,23 +5,23 @@ use Rattle.std.specs.Int.{w64, int_wrap}
 use Rattle.a95_base.specs.declared.scalar.Scalar.{Scalar}
 use Rattle.a95_base.specs.declared.scalar.Scalar.TheVariants as scalar
 use Rattle.a95_base.specs.Integer.{wrapped}
-use Rattle.a95_base.specs.Limits.{most_elements}
+use Rattle.a95_base.specs.Limits.{most_elements, longest_text}
 use Rattle.a95_base.specs.Lists.{Every}
-use Rattle.array_meaning.specs.Values.{integer_of, truth_of, text_of, size_of}
+use Rattle.array_meaning.specs.Values.{integer_of, truth_of, text_of, length_of, size_of}
 use Rattle.array_meaning.specs.State.{Dimension as Bounds, Array, extent_of, extents_of}
 use Rattle.nest_tree.specs.declared.access.Name.{Name}
+use Rattle.nest_tree.specs.declared.access.Name.TheVariants as name
 use Rattle.nest_tree.specs.declared.unit.Sort.{Sort}
 use Rattle.nest_tree.specs.declared.unit.Sort.TheVariants as sort
 use Rattle.nest_tree.specs.Plain.{Procedure}
 use Rattle.nest_tree.specs.State.{Memory, NestState, memory_of, block_in}
-use Rattle.nest_tree.specs.Places.{at_turn}
+use Rattle.nest_tree.specs.Places.{at_turn, empty_like}
 use Rattle.nest_tree.specs.Sound.{sort_of_name}
 use Rattle.loop_tree.specs.State.{Cells, Ints, Texts, Block, cells_numbered}
 use Rattle.loop_tree.specs.Values.{number_at, text_at, block_at}
 use Rattle.loop_laws.specs.At.{Variables}
-use Rattle.nest_emit.specs.Numbers.{array_number, array_count, lower_number, extent_number, scalar_number, first_free, loop_number}
+use Rattle.nest_emit.specs.Numbers.{array_number, array_count, lower_number, extent_number, length_number, scalar_number, leaving_number, first_free, loop_number}
 use Rattle.nest_emit.specs.Trees.{number_for}
-use Rattle.nest_emit.specs.Emits.{is_text}
 
 -- ---- values
 
@@ -89,6 +89,31 @@ abbrev pub StandsIf : Sort → List ℤ → ℕ → Option Array → Type 0
 StandsIf s ints array None = Unit {0}
 StandsIf s ints array (Some a) = Stands s ints array a
 
+-- what is held in a declared variable of texts: each has the length of the variable, which stands in its integer
+pub record Fitted (ints : List ℤ) (array : ℕ) (blank : Scalar) (a : Array) : Type 0 where
+  pub text : blank ≡ scalar.Text (text_of blank)
+  pub length : number_at ints (length_number array) ≡ pos (length_of blank)
+  pub small : length_of blank ≤ longest_text
+  pub elements : Every (λ x. length_of x ≡ length_of blank) a.elements
+
+abbrev pub FittedIf : List ℤ → ℕ → Scalar → Option Array → Type 0
+FittedIf ints array blank None = Unit {0}
+FittedIf ints array blank (Some a) = Fitted ints array blank a
+
+-- what a block that holds something grows by: zeros, or texts without characters
+pub record Grows (s : Sort) (blank : Scalar) : Type 0 where
+  pub of : IsOf s (empty_like blank)
+  pub number : number_for (empty_like blank) ≡ pos 0
+  pub text : text_of (empty_like blank) ≡ []
+
+abbrev pub GrowsIf : Sort → Scalar → Option Array → Type 0
+GrowsIf s blank None = Unit {0}
+GrowsIf s blank (Some a) = Grows s blank
+
+abbrev pub is_text : Option Sort → Bool
+is_text (Some sort.Text) = true
+is_text other = false
+
 abbrev pub is_text_scalar : Scalar → Bool
 is_text_scalar (scalar.Text bytes) = true
 is_text_scalar other = false
@@ -101,6 +126,9 @@ pub record Arrays (q : Procedure) (m : Memory) (v : Variables) : Type 0 where
   pub seen : (n : Name) (s : Sort) → sort_of_name q n ≡ Some s →
       held v.blocks (block_of s v (array_number q n)) ≡ cells_held s (block_in m n).held
   pub whole : (n : Name) (s : Sort) → sort_of_name q n ≡ Some s → StandsIf s v.ints (array_number q n) (block_in m n).held
+  pub fitted : (i : ℕ) → sort_of_name q (name.Own i) ≡ Some sort.Text →
+      FittedIf v.ints i (block_in m (name.Own i)).blank (block_in m (name.Own i)).held
+  pub grows : (n : Name) (s : Sort) → sort_of_name q n ≡ Some s → GrowsIf s (block_in m n).blank (block_in m n).held
   pub apart : (n k : Name) (s r : Sort) (number : ℕ) → sort_of_name q n ≡ Some s → sort_of_name q k ≡ Some r →
       block_of s v (array_number q n) ≡ Some number → block_of r v (array_number q k) ≡ Some number → n ≡ k
   pub below : (n : Name) (s : Sort) (number : ℕ) → sort_of_name q n ≡ Some s →
@@ -156,8 +184,8 @@ pub record SameOthers (v w : Variables) : Type 0 where
   pub callers : w.callers ≡ v.callers
 
 pub record SameFor (q : Procedure) (v w : Variables) : Type 0 where
-  pub ints : (x : ℕ) → x < first_free q → number_at w.ints x ≡ number_at v.ints x
-  pub texts : (x : ℕ) → x < first_free q → text_at w.texts x ≡ text_at v.texts x
+  pub ints : (x : ℕ) → x < leaving_number q → number_at w.ints x ≡ number_at v.ints x
+  pub texts : (x : ℕ) → x < leaving_number q → text_at w.texts x ≡ text_at v.texts x
   pub int_blocks : w.int_blocks ≡ v.int_blocks
   pub text_blocks : w.text_blocks ≡ v.text_blocks
   pub blocks : w.blocks ≡ v.blocks

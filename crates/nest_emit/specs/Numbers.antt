@@ -27,8 +27,12 @@ length_number array = 16 * array + 15
 abbrev pub scalar_number : Procedure → ℕ → ℕ
 scalar_number q k = 16 * array_count q + k
 
+-- what leaves loops further out stands behind the scalars
+abbrev pub leaving_number : Procedure → ℕ
+leaving_number q = 16 * array_count q + length q.scalars
+
 abbrev pub first_free : Procedure → ℕ
-first_free q = 16 * array_count q + length q.scalars
+first_free q = suc (leaving_number q)
 
 -- the loops of the innermost of so many nests, each of which has a group of sixteen
 abbrev pub loop_number : ℕ → ℕ → ℕ

@@ -1,5 +1,5 @@
 -- The lines that leave the value of an element tree in an atom. They use the variables from number t on; a leaf needs no line.
-use Rattle.std.specs.Prelude.{ℕ, suc, ℤ, pos, Bool, true, false, List, [], ◌∷◌, ◌++◌, Option, Some, slice_index_or, ◌-◌, nat_eq, if◌then◌else◌, ◌+◌}
+use Rattle.std.specs.Prelude.{ℕ, suc, ℤ, pos, Bool, true, false, List, [], ◌∷◌, ◌++◌, Option, Some, None, slice_index_or, ◌-◌, nat_eq, if◌then◌else◌, ◌+◌}
 use Rattle.a95_base.specs.declared.fault.FaultKind.{FaultKind}
 use Rattle.a95_base.specs.declared.fault.FaultKind.TheVariants as fault
 use Rattle.a95_base.specs.declared.scalar.Scalar.{Scalar}
@@ -14,6 +14,7 @@ use Rattle.nest_tree.specs.declared.access.Along.TheVariants as along
 use Rattle.nest_tree.specs.declared.access.Amount.{Amount}
 use Rattle.nest_tree.specs.declared.access.Amount.TheVariants as amounts
 use Rattle.nest_tree.specs.declared.access.Dimension.{Dimension}
+use Rattle.nest_tree.specs.declared.access.Portion.{Portion}
 use Rattle.nest_tree.specs.declared.tree.Exact.{Exact}
 use Rattle.nest_tree.specs.declared.tree.Exact.TheVariants as exact
 use Rattle.nest_tree.specs.declared.unit.Sort.{Sort}
@@ -21,7 +22,7 @@ use Rattle.nest_tree.specs.declared.unit.Sort.TheVariants as sort
 use Rattle.f95_unit.specs.declared.operation.Elemental.{Elemental}
 use Rattle.f95_unit.specs.declared.operation.Elemental.TheVariants as elemental
 use Rattle.nest_tree.specs.Plain.{Procedure, Tree, Literal, Number, Constant, Fixed, Read, Turn, Unary, Binary, Exactly, Wrapped, Trim, Len, Asked, Cell, Place, Each, Trees, no_tree, tree}
-use Rattle.nest_tree.specs.Sound.{Scope, sort_of, some_serves, sort_of_name}
+use Rattle.nest_tree.specs.Sound.{Scope, sort_of, sorts_of, elemental_sort, some_serves, sort_of_name}
 use Rattle.loop_tree.specs.declared.atom.Atom.{Atom}
 use Rattle.loop_tree.specs.declared.atom.Atom.TheVariants as atom
 use Rattle.loop_tree.specs.declared.atom.TextAtom.{TextAtom}
@@ -50,6 +51,11 @@ set t x = stmt.Row (row.Int t x)
 
 abbrev pub say : ℕ → TextValue → Stmt
 say t x = stmt.Row (row.Text t x)
+
+-- a value by its sort, into a variable
+abbrev pub keep : Option Sort → ℕ → Atom → TextAtom → Stmt
+keep (Some sort.Text) n a w = say n (words.Atom w)
+keep s n a w = set n (int.Atom a)
 
 abbrev pub compute : ℕ → Atom → Operator → Atom → Stmt
 compute t a op b = set t (int.Operation a op b)
@@ -98,8 +104,18 @@ abbrev pub compared_lines : Bool → BinaryOp → ℕ → Atom → Atom → Text
 compared_lines true op t a b v w = set t (int.Compare v w) ∷ compare_line op t (atom.Int t) (atom.Number (pos 0)) ∷ []
 compared_lines false op t a b v w = compare_line op t a b ∷ []
 
+-- By a negative exponent it is one divided by the base, or by its square, as the exponent is odd or even: that is the same
+abbrev pub inverse_lines : ℕ → ℕ → Atom → Atom → List Stmt
+inverse_lines t test a b = unless_fault a fault.ZeroDivide ∷ compute test b operator.Remainder (atom.Number (pos 2))
+    ∷ stmt.IfElse (atom.Int test) (set test (int.Atom a) ∷ []) (compute test a operator.Multiply a ∷ [])
+    ∷ computed t (atom.Number (pos 1)) operator.Divide (atom.Int test)
+
+abbrev pub power_lines : ℕ → ℕ → Atom → Atom → List Stmt
+power_lines t test a b = compute test b operator.Less (atom.Number (pos 0))
+    ∷ stmt.IfElse (atom.Int test) (inverse_lines t test a b) (set t (int.Power a b) ∷ []) ∷ []
+
 abbrev pub binary_lines : Bool → BinaryOp → ℕ → Atom → Atom → TextAtom → TextAtom → List Stmt
-binary_lines texts binary.Power t a b v w = []
+binary_lines texts binary.Power t a b v w = power_lines t (suc (suc t)) a b
 binary_lines texts binary.Multiply t a b v w = computed t a operator.Multiply b
 binary_lines texts binary.Divide t a b v w = unless_fault b fault.ZeroDivide ∷ computed t a operator.Divide b
 binary_lines texts binary.Add t a b v w = computed t a operator.Add b
@@ -137,15 +153,34 @@ abbrev pub count_trees : Trees → ℕ
 count_trees no_tree = 0
 count_trees (tree place x ts) = suc (count_trees ts)
 
--- of the first arguments, with a free variable behind all of them
+-- the absolute value
+abbrev pub absolute_lines : ℕ → Atom → List Stmt
+absolute_lines t a = compute t a operator.Less (atom.Number (pos 0))
+    ∷ stmt.IfElse (atom.Int t) (compute t (atom.Number (pos 0)) operator.Subtract a ∷ []) (set t (int.Atom a) ∷ []) ∷ []
+
+-- of the first arguments, with free variables behind all of them
 abbrev pub elemental_lines : Elemental → ℕ → ℕ → Atom → Atom → TextAtom → List Stmt
-elemental_lines elemental.Abs t test a b v = compute test a operator.Less (atom.Number (pos 0))
-    ∷ stmt.IfElse (atom.Int test) (compute t (atom.Number (pos 0)) operator.Subtract a ∷ []) (set t (int.Atom a) ∷ [])
-    ∷ set t (int.Wrap (atom.Int t)) ∷ []
+elemental_lines elemental.Abs t test a b v = absolute_lines test a ++ (set t (int.Wrap (atom.Int test)) ∷ [])
 elemental_lines elemental.Mod t test a b v = unless_fault b fault.ZeroDivide ∷ compute t a operator.Remainder b ∷ []
+elemental_lines elemental.Modulo t test a b v = unless_fault b fault.ZeroDivide ∷ compute test a operator.Remainder b
+    ∷ compute test (atom.Int test) operator.Add b ∷ compute t (atom.Int test) operator.Remainder b ∷ []
+elemental_lines elemental.Sign t test a b v = absolute_lines test a ++ (compute (suc test) b operator.Less (atom.Number (pos 0))
+    ∷ stmt.IfElse (atom.Int (suc test)) (computed t (atom.Number (pos 0)) operator.Subtract (atom.Int test))
+    (set t (int.Wrap (atom.Int test)) ∷ []) ∷ [])
+elemental_lines elemental.Iand t test a b v = computed t a operator.And b
+elemental_lines elemental.Ior t test a b v = computed t a operator.Or b
+elemental_lines elemental.Ieor t test a b v = set t (int.Xor a b) ∷ set t (int.Wrap (atom.Int t)) ∷ []
+elemental_lines elemental.Char t test a b v = compute test (atom.Number (pos 0)) operator.LessEqual a
+    ∷ unless_fault (atom.Int test) fault.CharRange ∷ compute test a operator.Less (atom.Number (pos 256))
+    ∷ unless_fault (atom.Int test) fault.CharRange ∷ say t (words.Char a) ∷ []
 elemental_lines elemental.Adjustl t test a b v = say t (words.Left v) ∷ []
 elemental_lines elemental.Adjustr t test a b v = say t (words.Right v) ∷ []
 elemental_lines which t test a b v = []
+
+-- a better value is kept in a variable, where the test behind it tells
+abbrev pub better_line : Bool → (best : ℕ) → Atom → Stmt
+better_line true best a = stmt.IfElse (atom.Int (suc best)) [] (set best (int.Atom a) ∷ [])
+better_line false best a = stmt.IfElse (atom.Int (suc best)) (set best (int.Atom a) ∷ []) []
 
 -- ---- places
 
@@ -174,6 +209,13 @@ module _ (q : Procedure) (nests : ℕ) where
       ++ (compute t (atom.Int (extent_number array dim)) operator.Multiply (atom.Int t) ∷ (subscript_lines (suc t) d.along
       ++ (compute (suc t) (subscript_atom (suc t) d.along) operator.Subtract (atom.Int (lower_number array dim))
       ∷ compute t (atom.Int t) operator.Add (atom.Int (suc t)) ∷ [])))
+
+-- ---- texts
+
+-- the bytes of a text that an access names
+abbrev pub part_lines : Procedure → ℕ → Option Portion → List Stmt
+part_lines q t None = []
+part_lines q t (Some p) = say t (words.Part (text.Variable t) (amount_atom q p.first) (amount_atom q p.last)) ∷ []
 
 -- ---- trees
 
@@ -218,16 +260,36 @@ module _ (c : Scope) (nests : ℕ) where
   words_at place t no_tree = text.Literal []
   words_at place t (tree p x ts) = if nat_eq p place then words_of t x else words_at place (suc t) ts
 
+  -- the greatest or the least of INTEGERs: that of the arguments so far stands in a variable, the others from number k on
+  abbrev pub better_lines : Bool → (best k : ℕ) → Trees → List Stmt
+  better_lines greatest best k no_tree = []
+  better_lines greatest best k (tree place x ts) = compute (suc best) (atom_of k x) operator.Less (atom.Int best)
+      ∷ better_line greatest best (atom_of k x) ∷ better_lines greatest best (suc k) ts
+
+  abbrev pub best_lines : Bool → (t best : ℕ) → Trees → List Stmt
+  best_lines greatest t best no_tree = []
+  best_lines greatest t best (tree place x ts) = set best (int.Atom (atom_of t x)) ∷ (better_lines greatest best (suc t) ts
+      ++ (set t (int.Atom (atom.Int best)) ∷ []))
+
+  -- an elemental function of arguments from number t on
+  abbrev pub each_lines : Elemental → ℕ → Trees → List Stmt
+  each_lines elemental.Max t ts = best_lines true t (t + count_trees ts) ts
+  each_lines elemental.Min t ts = best_lines false t (t + count_trees ts) ts
+  each_lines elemental.Merge t ts = stmt.IfElse (atom_at 2 t ts)
+      (keep (elemental_sort elemental.Merge (sorts_of c ts)) t (atom_at 0 t ts) (words_at 0 t ts) ∷ [])
+      (keep (elemental_sort elemental.Merge (sorts_of c ts)) t (atom_at 1 t ts) (words_at 1 t ts) ∷ []) ∷ []
+  each_lines which t ts = elemental_lines which t (t + count_trees ts) (atom_at 0 t ts) (atom_at 1 t ts) (words_at 0 t ts)
+
   abbrev mutual
     pub tree_lines : ℕ → Tree → List Stmt
     tree_lines t (Read a) = place_lines c.own nests t (array_number c.own a.name) 0 a.dimensions
-        ++ cell_lines (sort_of_name c.own a.name) t (array_number c.own a.name) (place_atom c.own nests t a.dimensions)
+        ++ (cell_lines (sort_of_name c.own a.name) t (array_number c.own a.name) (place_atom c.own nests t a.dimensions)
+        ++ part_lines c.own t a.portion)
     tree_lines t (Cell n x) = tree_lines t x ++ cell_lines (sort_of_name c.own n) t (array_number c.own n) (atom_of t x)
     tree_lines t (Place a) = place_lines c.own nests t (array_number c.own a.name) 0 a.dimensions
         ++ (set t (int.Atom (place_atom c.own nests t a.dimensions)) ∷ [])
     tree_lines t (Asked q n) = asked_lines q t (array_number c.own n) (reference_to (sort_of_name c.own n) (array_number c.own n))
-    tree_lines t (Each which ts) = trees_lines t ts ++ elemental_lines which t (t + count_trees ts) (atom_at 0 t ts)
-        (atom_at 1 t ts) (words_at 0 t ts)
+    tree_lines t (Each which ts) = trees_lines t ts ++ each_lines which t ts
     tree_lines t (Unary op x) = tree_lines t x ++ unary_lines op t (atom_of t x)
     tree_lines t (Binary op x y) = tree_lines t x ++ (tree_lines (suc t) y
         ++ binary_lines (some_serves (sort_of c x) sort.Text) op t (atom_of t x) (atom_of (suc t) y) (words_of t x)
