@@ -92,7 +92,7 @@ own_sort : (o : Option Declared) (test : Declared → Bool) → of_declared fals
 own_sort None test h = cc
 own_sort (Some d) test h = (sort_of_type d.of, refl)
 
-dimension_sort : (q : Procedure) (n : Name) (dim : ℕ) → has_dimension q n dim ≡ true → (s : Sort) × (sort_of_name q n ≡ Some s)
+pub dimension_sort : (q : Procedure) (n : Name) (dim : ℕ) → has_dimension q n dim ≡ true → (s : Sort) × (sort_of_name q n ≡ Some s)
 dimension_sort q (name.Own i) dim h = own_sort (slice_get q.variables i) (λ d. nat_le 1 dim && nat_le dim d.rank) h
 dimension_sort q (name.Temp t) dim h = there_is (slice_get q.blocks t)
     (and_parts (nat_le 1 dim && nat_le dim 7) (is_some (slice_get q.blocks t)) h).1

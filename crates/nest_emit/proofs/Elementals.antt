@@ -1,12 +1,11 @@
 -- The rows of elemental functions leave their values, or their faults.
-use Rattle.std.proofs.Common.{◌≡◌, ℕ, zero, suc, ◌+◌, ◌<◌, ◌≤◌, Bool, true, false, not, nat_le, List, [], ◌∷◌, ◌++◌, Some, None, refl, sym, ap, ◌∙◌, subst, arith, ℤ, pos, length}
+use Rattle.std.proofs.Common.{◌≡◌, ℕ, suc, ◌+◌, ◌<◌, ◌≤◌, Bool, true, false, not, nat_le, List, [], ◌∷◌, ◌++◌, Some, None, refl, sym, ap, ◌∙◌, subst, arith, ℤ, pos, length}
 use Rattle.std.specs.Prelude.{FitsSigned, negsuc, Ok, Err, unsigned_abs, int_lt, int_le, int_rem, neg_ℤ, ◌-ℤ◌, ◌+ℤ◌, map, fold, cond}
 use Rattle.std.specs.Int.{w32, w64, int_wrap, int_bit_and, int_bit_or, int_bit_xor}
 use Rattle.std.specs.Ordering.{int_eq}
 use Rattle.std.specs.Option.{ok_or}
 use Rattle.std.proofs.lemmas.Int.{rem_below}
 use Rattle.std.proofs.lemmas.Bool.Decides.{nat_tests, Decides-int_eq}
-use Rattle.a95_base.specs.declared.fault.FaultKind.{FaultKind}
 use Rattle.a95_base.specs.declared.fault.FaultKind.TheVariants as fault
 use Rattle.a95_base.specs.declared.scalar.Scalar.{Scalar}
 use Rattle.a95_base.specs.declared.scalar.Scalar.TheVariants as scalar

@@ -1,5 +1,5 @@
 -- A block that grows: it is one row then, counted from 1.
-use Rattle.std.proofs.Common.{◌≡◌, ◌≢◌, ◌⊎◌, inl, inr, ℕ, zero, suc, ◌+◌, ◌-◌, ◌*◌, ◌<◌, ◌≤◌, Bool, true, false, not, ◌&&◌, nat_le, List, [], ◌∷◌, ◌++◌, Option, Some, None, refl, sym, ap, ◌∙◌, subst, arith, ℤ, pos, length, if◌then◌else◌}
+use Rattle.std.proofs.Common.{◌≡◌, ◌≢◌, ◌⊎◌, inl, inr, ℕ, zero, suc, ◌+◌, ◌*◌, ◌<◌, ◌≤◌, Bool, true, false, not, ◌&&◌, nat_le, List, [], ◌∷◌, ◌++◌, Option, Some, None, refl, sym, ap, ◌∙◌, subst, arith, ℤ, pos, length, if◌then◌else◌}
 use Rattle.std.specs.Prelude.{Ok, negsuc, map, replicate, unsigned_abs, int_lt, ◌+ℤ◌, ◌-ℤ◌}
 use Rattle.std.specs.Int.{w64, int_wrap}
 use Rattle.std.proofs.lemmas.List.{length-append, length-replicate, map-append}
@@ -15,7 +15,6 @@ use Rattle.array_meaning.specs.State.{dimension, extent_of, extents_of, counted_
 use Rattle.array_meaning.specs.Control.{Next}
 use Rattle.nest_tree.specs.declared.access.Amount.{Amount}
 use Rattle.nest_tree.specs.declared.access.Name.{Name}
-use Rattle.nest_tree.specs.declared.access.Name.TheVariants as name
 use Rattle.nest_tree.specs.declared.unit.Sort.{Sort}
 use Rattle.nest_tree.specs.declared.unit.Sort.TheVariants as sort
 use Rattle.nest_tree.specs.Plain.{Procedure, Grow}

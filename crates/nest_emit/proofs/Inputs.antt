@@ -6,8 +6,6 @@ use Rattle.std.specs.Ordering.{int_eq}
 use Rattle.std.proofs.lemmas.Int.{ints}
 use Rattle.std.proofs.lemmas.Bool.Decides.{nat_tests}
 use Rattle.a95_base.specs.declared.fault.FaultKind.TheVariants as fault
-use Rattle.a95_base.specs.declared.scalar.Scalar.{Scalar}
-use Rattle.a95_base.specs.declared.scalar.Scalar.TheVariants as scalar
 use Rattle.a95_base.specs.Input.{Reading, Integer, NoMore, NoInteger, next_value, reading_at, reading_of, past_gap, word_of, is_number, number_of, negative_of, positive_of, integer_of as written_integer, record_length}
 use Rattle.a95_base.specs.Integer.{wrapped}
 use Rattle.a95_base.specs.Steps.{Ran, pure, stop, behind, ◌>>=◌, ◌>>◌}
@@ -32,7 +30,6 @@ use Rattle.loop_tree.specs.declared.row.IntValue.TheVariants as int_row
 use Rattle.loop_tree.specs.declared.row.RecordRow.TheVariants as record_row
 use Rattle.loop_tree.specs.declared.row.Row.TheVariants as row
 use Rattle.loop_tree.specs.declared.tree.CodeLine.{CodeLine}
-use Rattle.loop_tree.specs.declared.tree.Stmt.{Stmt}
 use Rattle.loop_tree.specs.declared.tree.Stmt.TheVariants as stmt
 use Rattle.loop_tree.specs.declared.tree.Function.{Function}
 use Rattle.loop_tree.specs.Lines.{flats}

@@ -3,11 +3,8 @@ use Rattle.std.proofs.Common.{◌≡◌, ℕ, suc, ◌+◌, ◌-◌, ◌≤◌, 
 use Rattle.std.specs.Prelude.{Ok, negsuc, take, drop, replicate, unsigned_abs, cond, int_lt, int_le}
 use Rattle.std.proofs.lemmas.List.{length-append, length-take, length-drop, length-replicate}
 use Rattle.std.proofs.lemmas.Bool.Decides.{nat_tests}
-use Rattle.a95_base.specs.declared.scalar.Scalar.{Scalar}
-use Rattle.a95_base.specs.declared.scalar.Scalar.TheVariants as scalar
 use Rattle.a95_base.specs.Text.{fit, part_of, over}
 use Rattle.std.proofs.lemmas.Bool.{and_parts}
-use Rattle.array_meaning.specs.State as source
 use Rattle.array_meaning.specs.Sections.{is_part, part_bytes}
 use Rattle.loop_tree.specs.Values.{sub, sub_within, replaced, replaced_within}
 

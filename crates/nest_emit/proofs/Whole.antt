@@ -217,7 +217,7 @@ declared_rank test each (d ∷ ds) zero rank h g =
     let few = each d (and_parts (test d) (list_all test ds) h).0 in omega (arith, same, few)
 declared_rank test each (d ∷ ds) (suc i) rank h g = declared_rank test each ds i rank (and_parts (test d) (list_all test ds) h).1 g
 
-ranks_known : (q : Procedure) → are_declared q.variables ≡ true → (n : Name) (rank : ℕ) → has_rank q n rank ≡ true → rank ≤ 7
+pub ranks_known : (q : Procedure) → are_declared q.variables ≡ true → (n : Name) (rank : ℕ) → has_rank q n rank ≡ true → rank ≤ 7
 ranks_known q h (name.Own i) rank g =
     let count = count_dummies q.variables in
     let test = λ (d : Declared). has_own_length d.of d.role && has_own_rank d.rank d.role && result_is_last count d.role in

@@ -1,0 +1,4 @@
+pub mod Bodies
+pub mod Trees
+pub mod Statements
+pub mod Whole
