@@ -1,0 +1,4 @@
+pub mod Added
+pub mod Positions
+pub mod Pairs
+pub mod Dimensions
