@@ -13,7 +13,7 @@ use Rattle.intrinsic_table.specs.Finding.{is_word}
 use Rattle.name_table.specs.Places.{first_place}
 use Rattle.scope_names.specs.Tables.{meant_by}
 
-behind : {A : Type 0} (test : A → Bool) (i p : ℕ) (xs : List A) → position_from test i xs ≡ Some p → i ≤ p
+pub behind : {A : Type 0} (test : A → Bool) (i p : ℕ) (xs : List A) → position_from test i xs ≡ Some p → i ≤ p
 behind test i p [] e = absurd (none-some p e)
 behind test i p (x ∷ xs) e = by (test x) e (behind test (i + 1) p xs)
   where

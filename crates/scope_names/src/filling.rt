@@ -50,7 +50,12 @@ pub fn meanings_of(
         meanings: Vec::new(alloc),
     };
     for entry in entries {
-        let senses = ConstantSenses { own: &own, host };
+        let senses = ConstantSenses {
+            own: &own.names,
+            names: &own.names,
+            before: own.meanings.as_slice(),
+            host,
+        };
         let meaning = form_meaning(alloc, &senses, entry.form)?;
         own.meanings.push(meaning)?;
     }

@@ -7,5 +7,5 @@ mod meanings;
 mod senses;
 
 pub use filling::meanings_of;
-pub use meanings::Meanings;
+pub use meanings::{Meanings, known_meaning};
 pub use senses::{ConstantSenses, intrinsic_named};

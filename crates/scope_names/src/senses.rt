@@ -2,13 +2,14 @@
 ghost use Rattle.std.specs.Prelude.{◌≡◌, IfOk, option_map};
 ghost use Rattle.names_types.specs.Keywords.{intrinsic_named};
 ghost use Rattle.names_types.specs.Scopes.{sense_of, intrinsic_sense, host_sense, constant_sense, meaning_in};
-ghost use Rattle.scope_names.specs.Tables.{meant_in};
+ghost use Rattle.scope_names.specs.Tables.{meant_by, meant_in};
 
-use crate::meanings::Meanings;
+use crate::meanings::{Meanings, known_meaning};
 use a95_base::SharedBytes;
 use constant_values::Senses;
 use elemental_values::copy_valued;
 use intrinsic_table::{Intrinsic, interface};
+use name_table::NameTable;
 use names_types::{Meaning, Sense};
 use std::alloc::{AllocError, Global};
 
@@ -49,19 +50,22 @@ fn host_sense(alloc: Global, host: &Meanings, name: &SharedBytes) -> Result<Sens
     }
 }
 
-/// The names of a scope as far as their meanings are known, and those of its host.
+/// What names mean where the scope has these names of its own, the first of `names` mean what `before` says, and the names of the
+/// host mean what `host` says.
 #[derive(Clone, Copy)]
 pub struct ConstantSenses<'a> {
-    pub own: &'a Meanings,
+    pub own: &'a NameTable,
+    pub names: &'a NameTable,
+    pub before: &'a [Meaning],
     pub host: &'a Meanings,
 }
 
 impl<'a> Senses for ConstantSenses<'a> {
-    ghost meant = { λ s. constant_sense s.own.now.names (meant_in s.host.now) (meant_in s.own.now) };
+    ghost meant = { λ s. constant_sense s.own.now (meant_in s.host.now) (meant_by s.names.now s.before.now) };
 
     fn sense(&self, alloc: Global, name: &SharedBytes) -> Result<Sense, AllocError> {
-        if self.own.declares(name) {
-            sense_of(alloc, self.own.get(name))
+        if self.own.contains(name.as_slice()) {
+            sense_of(alloc, known_meaning(self.names, self.before, name))
         } else {
             host_sense(alloc, self.host, name)
         }

@@ -1,0 +1,8 @@
+use Rattle.std.proofs.Common.{◌≡◌, drop, map}
+use Rattle.std.specs.List.{list_any}
+use Rattle.names_types.specs.Rules.{is_open}
+use Rattle.names_types.specs.View.{dim_of}
+use Rattle.scope_rules.proofs.agreement.some_open.Given as goal
+
+abbrev pub invariant-loop-dim : goal.invariant-loop-dim
+invariant-loop-dim l = list_any is_open (map dim_of (drop l.dim-index l.dims)) ≡ list_any is_open (map dim_of l.dims)
