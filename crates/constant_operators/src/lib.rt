@@ -8,7 +8,10 @@ mod scalars;
 mod value;
 
 pub use laws::known_within;
-pub use operators::{a_text, a_truth, an_integer, binary, is_kind, literal, signed};
+pub use operators::{
+    a_text, a_truth, an_integer, binary, is_kind, literal, operator_facts, sign_facts, signed,
+    worth_of_one, worth_of_two,
+};
 pub use scalars::{
     integer, integer_of, integer_or_spoilt, text_of, text_or_spoilt, truth, truth_of,
 };

@@ -109,7 +109,7 @@ fn comparable(f: &Facts, g: &Facts) -> Option<Facts>
 }
 
 /// What an operator makes of operands whose kinds fit.
-fn operator_facts(operator: Operator, f: &Facts, g: &Facts) -> Result<Option<Facts>, AllocError>
+pub fn operator_facts(operator: Operator, f: &Facts, g: &Facts) -> Result<Option<Facts>, AllocError>
     ensures { IfOk result (λ r. r ≡ operator_facts operator f.now g.now) }
 {
     match operator {
@@ -126,7 +126,7 @@ fn operator_facts(operator: Operator, f: &Facts, g: &Facts) -> Result<Option<Fac
     }
 }
 
-fn sign_facts(sign: Sign, f: &Facts) -> Option<Facts>
+pub fn sign_facts(sign: Sign, f: &Facts) -> Option<Facts>
     ensures { result ≡ sign_facts sign f.now }
 {
     match sign {
@@ -157,7 +157,7 @@ fn with_unknown(operator: Operator, y: &Worth) -> Worth
     }
 }
 
-fn worth_of_two(
+pub fn worth_of_two(
     alloc: Global,
     operator: Operator,
     x: &Worth,
@@ -172,7 +172,7 @@ fn worth_of_two(
     }
 }
 
-fn worth_of_one(sign: Sign, worth: Worth) -> Worth
+pub fn worth_of_one(sign: Sign, worth: Worth) -> Worth
     ensures { result ≡ worth_of_one (signed_value sign) worth }
 {
     match worth {

@@ -136,7 +136,7 @@ fn of_merge(seen: &[(usize, Valued)]) -> Option<Facts>
 }
 
 /// The elemental functions on scalars, where the kinds fit.
-fn elemental_facts(which: Intrinsic, seen: &[(usize, Valued)]) -> Option<Facts>
+pub fn elemental_facts(which: Intrinsic, seen: &[(usize, Valued)]) -> Option<Facts>
     ensures { result ≡ elemental_facts which seen.now }
 {
     match which {
@@ -354,7 +354,7 @@ fn all_are_known(seen: &[(usize, Valued)]) -> bool
 }
 
 /// All arguments are evaluated.
-fn elemental_worth(
+pub fn elemental_worth(
     alloc: Global,
     which: Intrinsic,
     seen: &[(usize, Valued)],

@@ -5,4 +5,4 @@ mod copies;
 mod elemental;
 
 pub use copies::{copy_argument, copy_scalar, copy_valued};
-pub use elemental::elemental_call;
+pub use elemental::{elemental_call, elemental_facts, elemental_worth};

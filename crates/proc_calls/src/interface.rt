@@ -26,7 +26,7 @@ pub struct Interface {
     pub dummies: Items<Option<Dummy>>,
 }
 
-fn kind_of(of: DeclaredType) -> Kind
+pub fn kind_of(of: DeclaredType) -> Kind
     ensures { result ≡ spec.kind_of of }
 {
     match of {
@@ -36,7 +36,7 @@ fn kind_of(of: DeclaredType) -> Kind
     }
 }
 
-fn known_length(of: DeclaredType) -> Option<u32>
+pub fn known_length(of: DeclaredType) -> Option<u32>
     ensures { result ≡ spec.known_length of }
 {
     match of {
@@ -121,7 +121,7 @@ fn dummies_of(alloc: Global, entities: &[Entity]) -> Result<Items<Option<Dummy>>
     Ok(dummies)
 }
 
-fn interface_of(alloc: Global, p: &Procedure) -> Result<Interface, AllocError>
+pub fn interface_of(alloc: Global, p: &Procedure) -> Result<Interface, AllocError>
     ensures { IfOk result (λ i. i ≡ spec.interface_of (procedure_of p.now)) }
 {
     let dummies = dummies_of(alloc, p.entities.as_slice())?;

@@ -13,5 +13,7 @@ mod reference;
 pub use actuals::is_in;
 pub use caller::{Caller, enter};
 pub use first::noted;
-pub use interface::{Dummy, Interface, interfaces_of, is_dummy, rank_of};
+pub use interface::{
+    Dummy, Interface, interface_of, interfaces_of, is_dummy, kind_of, known_length, rank_of,
+};
 pub use reference::{at_reference, at_transfer};

@@ -13,3 +13,4 @@ pub use access::{Access, DimAccess};
 pub use atom::Atom;
 pub use linear_form::{LinearForm, same_forms};
 pub use section::Section;
+pub use triplet::triplet_count;

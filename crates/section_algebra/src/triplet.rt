@@ -124,7 +124,7 @@ impl Triplet {
 }
 
 /// How many subscripts the triplet has.
-pub(crate) fn triplet_count(first: i64, last: i64, stride: i64) -> i64
+pub fn triplet_count(first: i64, last: i64, stride: i64) -> i64
     requires first { IsInteger first }
     requires last { IsInteger last }
     requires stride { IsInteger stride }

@@ -1,0 +1,9 @@
+pub mod Listing
+pub mod Gives
+pub mod Parts
+pub mod Typed
+pub mod TypedAssignments
+pub mod TypedStatements
+pub mod TypedUnits
+pub mod OneUnit
+pub mod Telling

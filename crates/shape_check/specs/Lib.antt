@@ -1,0 +1,16 @@
+pub mod Found
+pub mod Names
+pub mod Nodes
+pub mod References
+pub mod Expressions
+pub mod Statements
+pub mod Told
+pub mod Assignments
+pub mod Executable
+pub mod Blocks
+pub mod Declared
+pub mod Units
+pub mod Broken
+pub mod Listed
+pub mod Asked
+pub mod Laws

@@ -1,0 +1,14 @@
+pub mod Shapes
+pub mod Operations
+pub mod Known
+pub mod Intrinsics
+pub mod Questions
+pub mod Rules
+pub mod Levels
+pub mod Typing
+pub mod Masks
+pub mod Entities
+pub mod WellTyped
+pub mod WellTypedStatements
+pub mod WellTypedUnits
+pub mod Laws
