@@ -10,6 +10,7 @@ use Rattle.std.proofs.lemmas.List.Folds.{list_any-append}
 use Rattle.std.proofs.lemmas.Slice.Eq.{bytes_eq-Decides}
 use Rattle.std.proofs.lemmas.Option.{same_Some, none-some}
 use Rattle.a95_base.proofs.Tests.{next_place}
+use Rattle.std.proofs.lemmas.Bool.{lt-ltb}
 use Rattle.f95_tree.specs.Forms.{Word}
 use Rattle.intrinsic_table.specs.Finding.{is_word}
 use Rattle.name_table.specs.Places.{first_place}
@@ -47,12 +48,9 @@ brought_is ns ms es e f =
 
 -- ---- names that stand twice
 
-above_none : (n : ℕ) → nat_lt 0 (suc n) ≡ true
-above_none n = grind (arith, nat_tests)
-
 one_less : (n : ℕ) → nat_lt 1 (suc n) ≡ nat_lt 0 n
 one_less zero = refl
-one_less (suc n) = let both : nat_lt 1 (suc (suc n)) ≡ true = grind (arith, nat_tests) in both ∙ sym (above_none n)
+one_less (suc n) = let both : nat_lt 1 (suc (suc n)) ≡ true = grind (arith, nat_tests) in both ∙ sym (lt-ltb 0 (suc n) (omega arith))
 
 some_is_any : {A : Type 0} (test : A → Bool) (xs : List A) → nat_lt 0 (length (filter test xs)) ≡ list_any test xs
 some_is_any test [] = refl
@@ -60,7 +58,7 @@ some_is_any test (x ∷ xs) = by (test x) (some_is_any test xs)
   where
     by : (b : Bool) → nat_lt 0 (length (filter test xs)) ≡ list_any test xs
         → nat_lt 0 (length (cond b (x ∷ filter test xs) (filter test xs))) ≡ (b || list_any test xs)
-    by true e = above_none (length (filter test xs))
+    by true e = lt-ltb 0 (suc (length (filter test xs))) (omega arith)
     by false e = e
 
 -- whether a second one stands there, where one was seen or wasn't
