@@ -13,6 +13,7 @@ pub use operators::{
     worth_of_one, worth_of_two,
 };
 pub use scalars::{
-    integer, integer_of, integer_or_spoilt, text_of, text_or_spoilt, truth, truth_of,
+    are_equivalent, compared, integer, integer_of, integer_or_spoilt, text_of, text_or_spoilt,
+    truth, truth_of,
 };
 pub use value::{Argument, Facts, Valued, Worth};

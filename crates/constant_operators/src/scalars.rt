@@ -140,7 +140,8 @@ fn text_order(x: &[u8], y: &Scalar) -> Ordering
     }
 }
 
-fn compared(x: &Scalar, y: &Scalar) -> Ordering
+/// The order of two integers, or of two texts padded to one length; equal otherwise.
+pub fn compared(x: &Scalar, y: &Scalar) -> Ordering
     ensures { result ≡ compared x.now y.now }
 {
     match x {
@@ -175,7 +176,8 @@ fn either(a: bool, b: bool) -> bool
     a || b
 }
 
-fn are_equivalent(a: bool, b: bool) -> bool
+/// Whether both hold or neither.
+pub fn are_equivalent(a: bool, b: bool) -> bool
     ensures { result ≡ are_equivalent a b }
 {
     if a { b } else { !b }

@@ -7,6 +7,6 @@ mod arguments;
 mod expression;
 mod senses;
 
-pub use arguments::keyword_place;
+pub use arguments::{arranged, keyword_place};
 pub use expression::valued;
 pub use senses::Senses;

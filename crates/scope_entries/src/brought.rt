@@ -21,7 +21,7 @@ pub struct Brought<'a> {
 }
 
 /// What the nearest module of this name above has for USE.
-fn offer_named<'a>(above: &'a [Offer], name: &SharedBytes) -> Option<&'a Offer>
+pub fn offer_named<'a>(above: &'a [Offer], name: &SharedBytes) -> Option<&'a Offer>
     ensures { option_map (λ o. o.now) result ≡ offer_named (reverse above.now) name.now }
 {
     let mut left = above.len();

@@ -7,6 +7,7 @@ mod entry;
 mod scope;
 mod written;
 
+pub use brought::offer_named;
 pub use entry::{Entry, Form};
 pub use scope::{Place, entries};
-pub use written::result_name;
+pub use written::{result_name, type_in};

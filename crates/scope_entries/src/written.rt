@@ -71,7 +71,8 @@ pub fn add_begun<'a>(
     Ok(())
 }
 
-fn type_in(prefixes: &[Prefix]) -> Option<&TypeSpec>
+/// The type that stands before FUNCTION.
+pub fn type_in(prefixes: &[Prefix]) -> Option<&TypeSpec>
     ensures { option_map (λ t. type_of t.now) result ≡ type_in prefixes.now }
 {
     for prefix in prefixes {

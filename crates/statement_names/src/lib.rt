@@ -10,5 +10,5 @@ mod named;
 
 pub use blocks::statements_mentions;
 pub use expressions::expression_names;
-pub use lines::note;
+pub use lines::{note, note_names};
 pub use named::Named;

@@ -9,7 +9,8 @@ use f95_tree::Assignment;
 use names_types::Mention;
 use std::alloc::{AllocError, Global};
 
-fn note_names(
+/// These names, each with the line.
+pub fn note_names(
     line: Line,
     names: Vec<SharedBytes>,
     mentions: &mut Vec<Mention>,
