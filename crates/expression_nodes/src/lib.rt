@@ -5,7 +5,9 @@
 mod item;
 mod laws;
 mod missing;
+mod operators;
 
 pub use item::{Behind, Item};
 pub use laws::{asking_composes, both_compose, then_composes};
 pub use missing::Missing;
+pub use operators::bounding;
