@@ -10,4 +10,4 @@ mod operators;
 pub use item::{Behind, Item};
 pub use laws::{asking_composes, both_compose, then_composes};
 pub use missing::Missing;
-pub use operators::bounding;
+pub use operators::{bounding, signed};
